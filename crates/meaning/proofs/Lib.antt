@@ -1,0 +1,15 @@
+pub mod Fitting
+pub mod Levels
+pub mod Held
+pub mod Shorter
+pub mod Next
+pub mod Outs
+pub mod Congruent
+pub mod Falls
+pub mod Rooted
+pub mod Looks
+pub mod Build
+pub mod Tested
+pub mod Unique
+pub mod Checked
+pub mod Books

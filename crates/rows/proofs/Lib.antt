@@ -1,0 +1,6 @@
+pub mod Compare
+pub mod Build
+pub mod Exists
+pub mod Order
+pub mod Pigeon
+pub mod Rows

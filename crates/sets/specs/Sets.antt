@@ -1,0 +1,51 @@
+-- Sets of numbers, each as one number: k is in the set where the bit k is set. Assumes nothing.
+use mathlib.Core.Bool.{Bool, true, false, cond, _||_}
+use mathlib.Core.List.{List, [], _∷_}
+use Prim.Native.Nat.{ℕ, zero, suc, _+_, _-_, _*_, _/_, _%_, _^_}
+use lib.Dec.{eqb}
+use lib.ListN.{length}
+
+-- whether k is in the set s
+unfoldable pub has : ℕ → ℕ → Bool
+has s k = eqb (s / 2 ^ k % 2) 1
+
+-- the set of the k below n with p k
+unfoldable pub setWhere : ℕ → (ℕ → Bool) → ℕ
+setWhere zero p = 0
+setWhere (suc n) p = setWhere n p + cond (p n) (2 ^ n) 0
+
+-- the set s with k in it too, where k is below n
+unfoldable pub adding : ℕ → ℕ → ℕ → ℕ
+adding n s k = setWhere n (λ i. has s i || eqb i k)
+
+-- k in front of ks where it is kept
+abbrev pub keep : Bool → ℕ → List ℕ → List ℕ
+keep true k ks = k ∷ ks
+keep false k ks = ks
+
+-- of the n numbers from i on, those with p, ascending
+unfoldable pub those : (ℕ → Bool) → ℕ → ℕ → List ℕ
+those p i zero = []
+those p i (suc n) = keep (p i) i (those p (suc i) n)
+
+-- the members below n of the set s, ascending
+unfoldable pub members : ℕ → ℕ → List ℕ
+members n s = those (has s) 0 n
+
+-- the set that words of 64 bits make, lowest first: the member 64 * i + k is bit k of word i
+unfoldable pub setOf : List ℕ → ℕ
+setOf [] = 0
+setOf (w ∷ ws) = setOf ws * 2 ^ 64 + w
+
+-- its members, ascending
+unfoldable pub membersOf : List ℕ → List ℕ
+membersOf ws = members (64 * length ws) (setOf ws)
+
+-- the reports of the rules ks, all ending at e: two numbers each
+unfoldable pub reports : ℕ → List ℕ → List ℕ
+reports e [] = []
+reports e (k ∷ ks) = e ∷ k ∷ reports e ks
+
+-- how many pairs have room in a buffer of n places, from place i on
+abbrev pub pairsFrom : ℕ → ℕ → ℕ
+pairsFrom n i = (n - i) / 2

@@ -13,7 +13,7 @@ use Rattle.meaning.specs.Tables.{IsFall}
 use Rattle.rows.proofs.Compare.{less, equal, more, order}
 use Rattle.meaning.proofs.Levels.{same-refl}
 use Rattle.meaning.proofs.Held.{same-held, held-nil, held-none}
-use Rattle.meaning.proofs.Shorter.{shorter, length-shorter, fall-row}
+use Rattle.meaning.proofs.Shorter.{shorter, shorter-nil, length-shorter, fall-row}
 use Rattle.meaning.proofs.Congruent.{congruence, bytes-shorter}
 
 module _ {r : Rules} {ts : List (List ℕ)} (asc : Ascending (Same r) ts) (root : (0 < length ts) × (getD ts 0 [] ≡ [])) where
@@ -41,3 +41,7 @@ module _ {r : Rules} {ts : List (List ℕ)} (asc : Ascending (Same r) ts) (root 
       let t = getD ts s [] in
       row-before asc s l (bytes-shorter r t (asc .bytes s l)) (fall-row x)
       (before-shorter (shorter r t) t (length-shorter r t (held-pos s t (row-own (congruence r) ts s l) p)))
+
+  -- row 0 falls to row 0
+  pub fall-root : {v : ℕ} → IsFall r ts (getD ts 0 []) v → v ≡ 0
+  fall-root {v} x = row-zero v [] (rw (root .1, shorter-nil r) at (fall-row x)) (held-nil r)

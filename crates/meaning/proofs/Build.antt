@@ -2,10 +2,11 @@
 -- fall; the byte's standing has a row already, or one is made for it, or there is no room. Of the tables nothing is used but how they are read, so the
 -- steps hold of any layout. Assumes nothing.
 use mathlib.Core.Path.{_≡_, refl, sym, _∙_}
-use mathlib.Core.Logic.{_≢_}
+use mathlib.Core.Logic.{_≢_, inl, inr}
 use mathlib.Core.Bool.{Bool, true, false, _||_, or-true, true≢false}
 use mathlib.Core.List.{List, [], _∷_, _++_}
 use Prim.Native.Nat.{ℕ, zero, suc, _+_, _≤_, _<_}
+use native.Mathlib.Nat.{eq-zero-or-pos}
 use native.Mathlib.Omega.{arith}
 use native.Mathlib.Decide.{decLt}
 use native.Mathlib.Numerals.{add-one}
@@ -15,7 +16,6 @@ use lib.ListN.{length, getD, List·getD-append}
 use lib.Seq.{getD-append-seam}
 use borrow.Author.Tests.{eq-eqb, ne-eqb}
 use Rattle.rows.specs.Rows.{IsRow, HasRow, Ascending, IsRows, MoreThan}
-use Rattle.rows.proofs.Compare.{less, equal, more, order}
 use Rattle.rows.proofs.Rows.{Congruence, row-same, row-own, row-append, one-row}
 use Rattle.rows.proofs.Build.{Partial, start, found, added, next, finish, crowded, length-snoc, row-new}
 use Rattle.meaning.specs.Rules.{Rules}
@@ -180,11 +180,7 @@ module _ {r : Rules} {ts : List (List ℕ)} {goto : ℕ → ℕ → ℕ} {via ro
 
     on-goes : goes ≡ true
     on-goes =
-        elim (order 0 s) [
-          | less p ↦ rw (extends-grows r t c (some-held p), goes-on, or-true)
-          | equal z ↦ rw (eq-eqb s 0 (sym z))
-          | more z ↦ absurd (omega arith)
-        ]
+        elim (eq-zero-or-pos s) [ inl z ↦ rw (eq-eqb s 0 z) | inr p ↦ rw (extends-grows r t c (some-held p), goes-on, or-true) ]
 
     held-next : held r u ≡ x .held s + 1
     held-next = grows-held r t c goes-on ∙ rw (f .numbers .held-is s l) (sym (add-one (held r t)))
@@ -195,10 +191,9 @@ module _ {r : Rules} {ts : List (List ℕ)} {goto : ℕ → ℕ → ℕ} {via ro
     -- the fall of the byte's standing
     fall-next : IsRow (Same r) ts (shorter r u) v
     fall-next =
-        elim (order 0 s) [
-          | less p ↦ rw (grows-shorter r t c goes-on (some-held p)) (f .leads c byte .later p)
-          | equal z ↦ rw (grows-shorter-first r t c goes-on (root-held (sym z)), f .leads c byte .first (sym z)) (row-empty asc top)
-          | more z ↦ absurd (omega arith)
+        elim (eq-zero-or-pos s) [
+          | inl z ↦ rw (grows-shorter-first r t c goes-on (root-held z), f .leads c byte .first z) (row-empty asc top)
+          | inr p ↦ rw (grows-shorter r t c goes-on (some-held p)) (f .leads c byte .later p)
         ]
 
     out-next : bitOr (finished r (x .held s + 1) onward) (x .out v) ≡ out r u

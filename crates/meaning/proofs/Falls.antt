@@ -1,16 +1,16 @@
 -- The fallbacks of a text: how many one byte makes, and that all of them with the held length are at most the bytes read. Assumes nothing.
 use mathlib.Core.Path.{_≡_, refl, sym, ap, _∙_}
+use mathlib.Core.Logic.{inl, inr}
 use mathlib.Core.Bool.{Bool, true, false}
 use mathlib.Core.List.{List, [], _∷_}
 use Prim.Native.Nat.{ℕ, zero, suc, pred, _+_, _≤_, _<_, zero-le}
-use native.Mathlib.Nat.{le-refl}
+use native.Mathlib.Nat.{le-refl, eq-zero-or-pos}
 use native.Mathlib.Omega.{arith}
 use lib.ListN.{length, take}
 use lib.Seq.{length-take-le, take-take}
 use Rattle.meaning.specs.Rules.{Rules}
 use Rattle.meaning.specs.Standing.{Same, opens, held, extends}
 use Rattle.meaning.specs.Falls.{longest, fallsFrom, falls, fallsIn}
-use Rattle.rows.proofs.Compare.{less, equal, more, order}
 use Rattle.meaning.proofs.Levels.{level-cons, level-cons-none, level-take}
 use Rattle.meaning.proofs.Held.{held-le, held-top, held-nil, held-take, le-held, same-held}
 use Rattle.meaning.proofs.Shorter.{shorter, held-shorter}
@@ -93,7 +93,7 @@ pub data Move (r : Rules) (t : List ℕ) (c : ℕ) : Type 0 where
   back : 0 < held r t → extends r t c ≡ false → Same r (c ∷ t) (c ∷ shorter r t) → falls r t c ≡ suc (falls r (shorter r t) c) → Move r t c
 
 pub move : (r : Rules) (t : List ℕ) (c : ℕ) → Move r t c
-move r t c = elim (order 0 (held r t)) [ less d ↦ go (grows r t c) refl d | equal d ↦ first (sym d) (falls-first r t c (sym d)) | more d ↦ absurd (omega arith) ]
+move r t c = elim (eq-zero-or-pos (held r t)) [ inl d ↦ first d (falls-first r t c d) | inr d ↦ go (grows r t c) refl d ]
   where
     go : (b : Bool) → grows r t c ≡ b → 0 < held r t → Move r t c
     go true e d = on d (extends-grows r t c d ∙ e) (falls-grows r t c e)

@@ -1,7 +1,9 @@
 -- Rows that ascend from the empty text: row 0, and only row 0, holds nothing. Assumes nothing.
-use mathlib.Core.Path.{_≡_, sym}
+use mathlib.Core.Path.{_≡_}
+use mathlib.Core.Logic.{inl, inr}
 use mathlib.Core.List.{List, []}
 use Prim.Native.Nat.{ℕ, zero, suc, _<_}
+use native.Mathlib.Nat.{eq-zero-or-pos}
 use native.Mathlib.Omega.{arith}
 use lib.ListN.{length, getD}
 use Rattle.rows.specs.Rows.{IsRow, Ascending}
@@ -10,7 +12,6 @@ use Rattle.rows.proofs.Rows.{row-before, row-own, row-same, one-row}
 use Rattle.meaning.specs.Rules.{Rules}
 use Rattle.meaning.specs.Standing.{Same, held}
 use Rattle.meaning.specs.Tables.{IsFall}
-use Rattle.rows.proofs.Compare.{less, equal, more, order}
 use Rattle.meaning.proofs.Levels.{same-refl}
 use Rattle.meaning.proofs.Held.{same-held, held-nil, held-none}
 use Rattle.meaning.proofs.Shorter.{shorter, shorter-nil, length-shorter, fall-row}
@@ -28,12 +29,7 @@ module _ {r : Rules} {ts : List (List ℕ)} (asc : Ascending (Same r) ts) (root 
   row-pos (suc s) t x p = omega arith
 
   pub held-pos : (s : ℕ) (t : List ℕ) → IsRow (Same r) ts t s → 0 < s → 0 < held r t
-  held-pos s t x p =
-      elim (order 0 (held r t)) [
-        | less d ↦ d
-        | equal d ↦ absurd (omega (arith, row-zero s t x (sym d)))
-        | more d ↦ absurd (omega arith)
-      ]
+  held-pos s t x p = elim (eq-zero-or-pos (held r t)) [ inl d ↦ absurd (omega (arith, row-zero s t x d)) | inr d ↦ d ]
 
   -- a fall goes to a lower row
   pub fall-lower : (s v : ℕ) → s < length ts → 0 < s → IsFall r ts (getD ts s []) v → v < s

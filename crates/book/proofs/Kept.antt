@@ -1,0 +1,86 @@
+-- What each accepted field keeps is so at the end of an accepted book. Assumes nothing.
+use Prim.Native.Nat.{ℕ, zero, suc, _+_, _-_, _≤_, _<_}
+use mathlib.Core.Path.{_≡_, refl, sym, subst, _∙_}
+use mathlib.Core.List.{List}
+use native.Mathlib.Omega.{arith}
+use borrow.Author.Tests.{eqb-false}
+use lib.ListN.{length, drop, length-take, length-drop, List·getD-eq-default}
+use lib.Seq.{getD-take, getD-drop}
+use lib.Dec.{eqb}
+use Rattle.book.specs.declared.Answer.{Answer}
+use Rattle.book.specs.declared.Answer.the-variants.{Accepted, Refused}
+use Rattle.book.specs.declared.Head.{Head}
+use Rattle.book.specs.declared.Head.the-variants.{Short, Unknown, Picture, Rule}
+use Rattle.book.specs.Content.{Content, nothing, withPicture, withRule}
+use Rattle.book.specs.Format.{headAt, judgePicture, symbolsOf, judgeRule, Outcome, goes, stops, outcome, pictureField, ruleField, part, fieldOf, fieldAt, means, refused, ended, fields, meaningOf}
+use Rattle.rows.specs.Rows.{ByteText}
+use Rattle.book.proofs.Cases.{by-test, by-lt}
+use Rattle.book.proofs.Fields.{Within, within, Ahead, ahead, fields-goes, fields-stops, fields-none, fields-ends}
+
+part-bytes : (s : List ℕ) → ByteText s → (b e : ℕ) → ByteText (part s b e)
+part-bytes s small b e i =
+    by-lt i (e - b)
+    (λ h. rw (getD-take (e - b) (drop b s) i 0 h, getD-drop b s i 0) (small (b + i)))
+    (λ h. rw (List·getD-eq-default (part s b e) 0 {n = i} (rw length-take (omega arith))) (omega arith))
+
+part-ends : (s : List ℕ) (at b e : ℕ) → b ≡ at + 3 → b ≤ e → e ≤ length s → at + 3 + length (part s b e) ≡ e
+part-ends s at b e h k l = simp (length-take, length-drop) (omega arith)
+
+-- P holds of a place and of what stands before it
+module _ (P : ℕ → Content → Type 0)
+    (picture : (at : ℕ) (a : Content) (m : List ℕ) → ByteText m → P at a → judgePicture (a .pictures) at m ≡ Accepted → P (at + 3 + length m) (withPicture a m))
+    (rule : (at : ℕ) (a : Content) (l : List ℕ) → ByteText l → P at a → judgeRule (length (a .rules)) (length (a .pictures)) at l ≡ Accepted → P (at + 3 + length l) (withRule a (symbolsOf l)))
+    (s : List ℕ) (small : ByteText s) where
+  abbrev After : Outcome → Type 0
+  After (goes e a) = P e a
+  After (stops r) = Unit
+
+  after-judged : (t : Answer) (e : ℕ) (a : Content) → (t ≡ Accepted → P e a) → After (outcome t e a)
+  unfolding outcome
+  after-judged Accepted e a h = h refl
+  after-judged (Refused r) e a h = tt
+
+  after-head : (at : ℕ) (a : Content) → P at a → (h : Head) → Within (length s) at h → After (fieldOf s at a h)
+  unfolding fieldOf pictureField ruleField
+  after-head at a p Short w = tt
+  after-head at a p Unknown w = tt
+  after-head at a p (Picture b e) w =
+      after-judged (judgePicture (a .pictures) at (part s b e)) e (withPicture a (part s b e))
+      (λ x. subst (λ n. P n (withPicture a (part s b e))) (part-ends s at b e (w .0) (w .1) (w .2)) (picture at a (part s b e) (part-bytes s small b e) p x))
+  after-head at a p (Rule b e) w =
+      after-judged (judgeRule (length (a .rules)) (length (a .pictures)) at (part s b e)) e (withRule a (symbolsOf (part s b e)))
+      (λ x. subst (λ n. P n (withRule a (symbolsOf (part s b e)))) (part-ends s at b e (w .0) (w .1) (w .2)) (rule at a (part s b e) (part-bytes s small b e) p x))
+
+  after-field : (at : ℕ) (a : Content) → P at a → After (fieldAt s at a)
+  unfolding fieldAt
+  after-field at a p = after-head at a p (headAt s at) (within s at)
+
+  -- what holds at the end of a book that holds b
+  abbrev Kept : Content → Type 0
+  Kept b = P (length s) b × (0 < length (b .rules))
+
+  at-end : (at : ℕ) (a b : Content) → at ≡ length s → P at a → ended (length s) a ≡ means b → Kept b
+  unfolding ended
+  at-end at a b h p e =
+      by-test (eqb (length (a .rules)) 0)
+      (λ t. let w : refused _ ≡ means b = rw t at e in absurd (let o : _≡_ {A = ℕ} 0 1 = cc in omega arith))
+      (λ t.
+      let w : means a ≡ means b = rw t at e in
+      let q : a ≡ b = cc in
+      let n = eqb-false (length (a .rules)) 0 t in
+      subst Kept q (subst (λ i. P i a) h p, omega arith))
+
+  along : (n at : ℕ) (a b : Content) → at ≤ length s → length s ≤ at + n → P at a → fields n s at a ≡ means b → Kept b
+  along zero at a b h k p e = at-end at a b (omega arith) p (sym (fields-none s at a) ∙ e)
+  along (suc n) at a b h k p e =
+      by-lt at (length s)
+      (λ l. turn l (λ y x. along n y x b) (fieldAt s at a) refl (after-field at a p) (ahead s at a))
+      (λ l. at-end at a b (omega arith) p (sym (fields-ends (suc n) s at a l) ∙ e))
+    where
+      turn : at < length s → ((y : ℕ) (x : Content) → y ≤ length s → length s ≤ y + n → P y x → fields n s y x ≡ means b → Kept b) → (o : Outcome) → fieldAt s at a ≡ o → After o → Ahead (length s) at o → Kept b
+      turn l f (goes y x) q t w = f y x (w .1) (omega arith) t (sym (fields-goes n s at a y x l q) ∙ e)
+      turn l f (stops r) q t w = let z = fields-stops n s at a r l q in absurd (let o : _≡_ {A = ℕ} 0 1 = cc in omega arith)
+
+  pub kept : P 0 nothing → (b : Content) → meaningOf s ≡ means b → Kept b
+  unfolding meaningOf
+  kept p b e = along (length s) 0 nothing b (omega arith) (omega arith) p e

@@ -1,0 +1,20 @@
+-- The laws of the book crate. Assumes nothing.
+pub mod Cases
+pub mod Turns
+pub mod Tables
+pub mod Members
+pub mod Pictures
+pub mod Distinct
+pub mod Records
+pub mod Held
+pub mod Judged
+pub mod Steps
+pub mod Fields
+pub mod Readings
+pub mod Kept
+pub mod Sounds
+pub mod Sizes
+pub mod Fitting
+pub mod Meant
+pub mod Accepted
+pub mod Numbers

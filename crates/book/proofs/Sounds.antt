@@ -1,0 +1,123 @@
+-- The content of an accepted book is sound, and a rule names only pictures that stand earlier. Assumes nothing.
+use Prim.Native.Nat.{ℕ, zero, suc, _+_, _*_, _≤_, _<_}
+use mathlib.Core.Path.{_≡_, refl, sym, _∙_}
+use mathlib.Core.Bool.{true, false}
+use mathlib.Core.List.{List, [], _∷_, _++_}
+use native.Mathlib.Omega.{arith}
+use borrow.Author.Tests.{eq-eqb, ne-eqb, le-ltb}
+use lib.ListN.{length, getD}
+use lib.Dec.{eqb}
+use Rattle.book.specs.declared.Answer.{Answer}
+use Rattle.book.specs.declared.Answer.the-variants.{Accepted, Refused}
+use Rattle.book.specs.declared.Symbols.the-variants.{Clean, UnknownKind, Undefined}
+use Rattle.book.specs.Limits.{mostPictures, mostSymbols}
+use Rattle.book.specs.Content.{Content, nothing, withPicture, withRule, member}
+use Rattle.book.specs.Format.{ascending, shares, isSymbol, faultAt, judgeSymbols, symbolsOf, judgeRule, goes, outcome, ruleField}
+use Rattle.rows.specs.Rows.{ByteText}
+use Rattle.book.specs.Sound.{Sound, NamedEarlier}
+use Rattle.book.proofs.Cases.{by-test, by-lt, by-eq, clash}
+use Rattle.book.proofs.Tables.{length-snoc, at-snoc}
+use Rattle.book.proofs.Records.{length-symbols}
+use Rattle.book.proofs.Judged.{rule-sound}
+use Rattle.book.proofs.Members.{member-byte, member-some, rises-at, ascending-at, unshared}
+use Rattle.book.proofs.Distinct.{few-rising}
+
+pub sound-nothing : Sound nothing
+unfolding member
+sound-nothing = record {
+  fewPictures = omega arith;
+  fewRules = omega arith;
+  notEmpty = λ k h. omega arith;
+  short = λ k. omega arith;
+  symbols = λ k j. omega arith;
+  filled = λ p h. omega arith;
+  upTo = λ p. omega arith;
+  rising = λ p i h. omega arith;
+  bytes = λ p c h. clash h refl;
+  apart = λ p q c h k. clash h refl;
+}
+
+-- ---- a picture more
+
+module _ (a : Content) (S : Sound a) (m : List ℕ) (small : ByteText m)
+    (h : length (a .pictures) < mostPictures) (up : ascending m ≡ true) (k : shares (a .pictures) m ≡ false) where
+  not-both : {A : Type 0} (q c : ℕ) → member c m ≡ true → member c (getD (a .pictures) q []) ≡ true → A
+  not-both q c t u = clash (member-some (a .pictures) q c u) (unshared (a .pictures) m c k t)
+
+  pub sound-picture : Sound (withPicture a m)
+  sound-picture = record {
+    fewPictures = rw length-snoc (omega arith);
+    fewRules = S .fewRules;
+    notEmpty = S .notEmpty;
+    short = S .short;
+    symbols = λ i j. rw length-snoc (omega (arith, S .symbols i j));
+    filled = λ p u. at-snoc (a .pictures) m (λ l. 0 < length l) p (λ e. ascending-at m up .0) (λ n. S .filled p (let v = rw length-snoc at u in omega arith));
+    upTo = λ p. at-snoc (a .pictures) m (λ l. length l ≤ 256) p (λ e. few-rising m small (ascending-at m up .1)) (λ n. S .upTo p);
+    rising = λ p i. at-snoc (a .pictures) m (λ l. suc i < length l → getD l i 0 < getD l (suc i) 0) p (λ e. rises-at m (ascending-at m up .1) i) (λ n. S .rising p i);
+    bytes = λ p c. at-snoc (a .pictures) m (λ l. member c l ≡ true → c < 256) p (λ e. member-byte m small c) (λ n. S .bytes p c);
+    apart = λ p q c.
+        at-snoc (a .pictures) m (λ l. member c l ≡ true → member c (getD (a .pictures ++ m ∷ []) q []) ≡ true → p ≡ q) p
+        (λ e t. at-snoc (a .pictures) m (λ l. member c l ≡ true → p ≡ q) q (λ f u. e ∙ sym f) (λ f u. not-both q c t u))
+        (λ e t. at-snoc (a .pictures) m (λ l. member c l ≡ true → p ≡ q) q (λ f u. not-both p c u t) (λ f u. S .apart p q c t u));
+  }
+
+-- ---- a rule more
+
+symbol-below : (p k b : ℕ) → b < 256 → isSymbol p k b ≡ true → 256 * k + b < 256 + p
+unfolding isSymbol
+symbol-below p k b h e =
+    by-eq k 0
+    (λ x. omega arith)
+    (λ x.
+    by-eq k 1
+    (λ y.
+    by-lt b p
+    (λ z. omega arith)
+    (λ z. absurd (let w : false ≡ true = rw (ne-eqb k 0 x, eq-eqb k 1 y, le-ltb b p z) at e in let o : _≡_ {A = ℕ} 0 1 = cc in omega arith)))
+    (λ y. absurd (let w : false ≡ true = rw (ne-eqb k 0 x, ne-eqb k 1 y) at e in let o : _≡_ {A = ℕ} 0 1 = cc in omega arith)))
+
+no-fault : {A : Type 0} (i k : ℕ) → faultAt i k ≡ Clean → A
+unfolding faultAt
+no-fault i k e =
+    by-test (eqb k 1)
+    (λ t. absurd (let w : Undefined i ≡ Clean = rw t at e in let o : _≡_ {A = ℕ} 0 1 = cc in omega arith))
+    (λ t. absurd (let w : UnknownKind i ≡ Clean = rw t at e in let o : _≡_ {A = ℕ} 0 1 = cc in omega arith))
+
+judge-below : (p i : ℕ) (l : List ℕ) → ByteText l → judgeSymbols p i l ≡ Clean → (j : ℕ) → getD (symbolsOf l) j 0 < 256 + p
+unfolding judgeSymbols symbolsOf
+judge-below p i [] h e j = omega arith
+judge-below p i (k ∷ []) h e j = omega arith
+judge-below p i (k ∷ b ∷ l) h e zero =
+    by-test (isSymbol p k b) (λ t. symbol-below p k b (h 1) t) (λ t. no-fault i k (rw t at e))
+judge-below p i (k ∷ b ∷ l) h e (suc j) =
+    by-test (isSymbol p k b)
+    (λ t. judge-below p (i + 2) l (λ x. h (suc (suc x))) (rw t at e) j)
+    (λ t. no-fault i k (rw t at e))
+
+pub sound-rule : (a : Content) → Sound a → (at : ℕ) (l : List ℕ) → ByteText l
+    → judgeRule (length (a .rules)) (length (a .pictures)) at l ≡ Accepted → Sound (withRule a (symbolsOf l))
+sound-rule a S at l small e =
+    let h = rule-sound (length (a .rules)) (length (a .pictures)) at l refl e in
+    let n = length-symbols l in
+    record {
+      fewPictures = S .fewPictures;
+      fewRules = rw length-snoc (omega arith);
+      notEmpty = λ k u. at-snoc (a .rules) (symbolsOf l) (λ x. 0 < length x) k (λ q. omega arith) (λ q. S .notEmpty k (let v = rw length-snoc at u in omega arith));
+      short = λ k. at-snoc (a .rules) (symbolsOf l) (λ x. length x ≤ mostSymbols) k (λ q. omega arith) (λ q. S .short k);
+      symbols = λ k j. at-snoc (a .rules) (symbolsOf l) (λ x. getD x j 0 < 256 + length (a .pictures)) k (λ q. judge-below (length (a .pictures)) (at + 3) l small (h .4) j) (λ q. S .symbols k j);
+      filled = S .filled;
+      upTo = S .upTo;
+      rising = S .rising;
+      bytes = S .bytes;
+      apart = S .apart;
+    }
+
+-- a picture named by a rule stands earlier
+pub named-earlier : NamedEarlier
+unfolding ruleField outcome
+named-earlier at e e′ a b l small q =
+    go (judgeRule (length (a .rules)) (length (a .pictures)) at l) refl q
+  where
+    go : (t : Answer) → judgeRule (length (a .rules)) (length (a .pictures)) at l ≡ t → outcome t e (withRule a (symbolsOf l)) ≡ goes e′ b → (j : ℕ) → getD (symbolsOf l) j 0 < 256 + length (a .pictures)
+    go Accepted u v = judge-below (length (a .pictures)) (at + 3) l small (rule-sound (length (a .rules)) (length (a .pictures)) at l refl u .4)
+    go (Refused r) u v = absurd (let o : _≡_ {A = ℕ} 0 1 = cc in omega arith)

@@ -1,0 +1,61 @@
+-- `book::mark_all` meets its contract: what is left to mark makes of the map what the whole body makes of the map at entry. Assumes nothing.
+use Prim.Native.Nat.{_≤_, _-_}
+use mathlib.Core.Path.{_≡_, sym, _∙_}
+use borrow.Author.Needs.{needs}
+use lib.ListN.{length, getD, drop}
+use Rattle.book.specs.Leaves.{mark}
+use Rattle.book.proofs.Turns.{mark-more, mark-ends}
+use Rattle.book.proofs.mark_all.Statement.{statement}
+use Rattle.book.proofs.mark_all.Tie as tie
+
+abbrev Inv-loop : tie.InvT-loop
+Inv-loop map₀ p body i₀ map i = (i ≤ length body) × (mark p map₀ body ≡ mark p map (drop i body))
+
+abbrev μ-loop : tie.MeasureT-loop
+μ-loop map₀ p body i₀ map i = length body - i
+
+loop-holds : tie.Need-loop-holds Inv-loop μ-loop
+loop-holds c = search needs
+
+shared-slice-read-wide : tie.Need-shared-slice-read-wide Inv-loop μ-loop
+shared-slice-read-wide c = search needs
+
+wide-requires : tie.Need-wide-requires Inv-loop μ-loop
+wide-requires c κs = search needs
+
+element-write-map : tie.Need-element-write-map Inv-loop μ-loop
+element-write-map c = search needs
+
+add-i : tie.Need-add-i Inv-loop μ-loop
+add-i c = search needs
+
+loop-less : tie.Need-loop-less Inv-loop μ-loop
+loop-less c = search needs
+
+loop-again : tie.Need-loop-again Inv-loop μ-loop
+loop-again c =
+    let l = c .before .before .before in
+    let a = l .before .before .args in
+    let e : c .wide .result ≡ getD (a .body .now) (l .loop .i) 0 = c .wide .ensures .0 in
+    (search needs, rw e (l .loop .inv .1 ∙ mark-more (l .loop .map) (a .body .now) (l .loop .i) (a .p) (search needs)))
+
+returns : tie.Need-returns Inv-loop μ-loop
+returns c =
+    let l = c .before in
+    let a = l .before .before .args in
+    sym (l .loop .inv .1 ∙ mark-ends (l .loop .map) (a .body .now) (l .loop .i) (a .p) (search needs))
+
+pub mark-all-spec : {M : Type 1} → statement M
+mark-all-spec =
+    tie.close
+    (tie.spec
+    Inv-loop
+    μ-loop
+    loop-holds
+    shared-slice-read-wide
+    wide-requires
+    element-write-map
+    add-i
+    loop-less
+    loop-again
+    returns)

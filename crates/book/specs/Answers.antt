@@ -1,0 +1,40 @@
+-- The number and the value that the paper gives to each answer of the reader. Assumes nothing.
+use Prim.Native.Nat.{ℕ}
+use Rattle.book.specs.declared.Refusal.{Refusal}
+use Rattle.book.specs.declared.Answer.{Answer}
+use Rattle.book.specs.declared.Answer.the-variants.{Accepted, Refused}
+use Rattle.book.specs.declared.Refusal.the-variants.{Cut, OtherTag, PictureBody, PictureShared, PictureMany, RuleBody, RuleLong, RuleMany, NoRule}
+
+-- the number of a refusal
+abbrev pub number : Refusal → ℕ
+number (Cut at) = 1
+number (OtherTag at) = 2
+number (PictureBody at) = 3
+number (PictureShared at) = 4
+number (PictureMany at) = 5
+number (RuleBody at) = 6
+number (RuleLong at) = 7
+number (RuleMany at) = 8
+number (NoRule n) = 9
+
+-- the value of a refusal: the field's offset, or the book's length
+abbrev pub value : Refusal → ℕ
+value (Cut at) = at
+value (OtherTag at) = at
+value (PictureBody at) = at
+value (PictureShared at) = at
+value (PictureMany at) = at
+value (RuleBody at) = at
+value (RuleLong at) = at
+value (RuleMany at) = at
+value (NoRule n) = n
+
+-- the number of an answer: 0 where the book is accepted
+abbrev pub numberOf : Answer → ℕ
+numberOf Accepted = 0
+numberOf (Refused r) = number r
+
+-- the value of an answer: 0 where the book is accepted
+abbrev pub valueOf : Answer → ℕ
+valueOf Accepted = 0
+valueOf (Refused r) = value r

@@ -1,0 +1,160 @@
+-- What the bytes of a rule book mean: field by field, each judged in the order of the paper. Assumes nothing.
+use Prim.Native.Nat.{ℕ, zero, suc, _+_, _-_, _*_, _%_}
+use mathlib.Core.Bool.{Bool, true, false, _&&_, _||_, cond}
+use mathlib.Core.List.{List, [], _∷_}
+use lib.ListN.{length, getD, take, drop}
+use lib.Dec.{eqb, leb, ltb}
+use Rattle.book.specs.declared.Head.{Head}
+use Rattle.book.specs.declared.Symbols.{Symbols}
+use Rattle.book.specs.declared.Refusal.{Refusal}
+use Rattle.book.specs.declared.Answer.{Answer}
+use Rattle.book.specs.declared.ReadBook.{ReadBook}
+use Rattle.book.specs.declared.Head.the-variants.{Short, Unknown, Picture, Rule}
+use Rattle.book.specs.declared.Symbols.the-variants.{Clean, UnknownKind, Undefined}
+use Rattle.book.specs.declared.Answer.the-variants.{Accepted, Refused}
+use Rattle.book.specs.declared.Refusal.the-variants.{Cut, OtherTag, PictureBody, PictureShared, PictureMany, RuleBody, RuleLong, RuleMany, NoRule}
+use Rattle.book.specs.Limits.{mostPictures, mostRules, mostSymbols}
+use Rattle.book.specs.Content.{Content, nothing, withPicture, withRule, inSome, recordOf}
+
+-- ---- a field's header
+
+-- the length that a header gives: two bytes, the high one first
+abbrev pub sizeAt : List ℕ → ℕ → ℕ
+sizeAt s at = 256 * getD s (at + 1) 0 + getD s (at + 2) 0
+
+-- the header of the field at a place: it or its body runs past the end, or its tag with the start and the end of its body
+unfoldable pub headAt : List ℕ → ℕ → Head
+headAt s at =
+    cond (ltb (length s) (at + 3)) Short
+    (cond (ltb (length s) (at + 3 + sizeAt s at)) Short
+    (cond (eqb (getD s at 0) 0x50) (Picture (at + 3) (at + 3 + sizeAt s at))
+    (cond (eqb (getD s at 0) 0x52) (Rule (at + 3) (at + 3 + sizeAt s at)) Unknown)))
+
+-- ---- a picture's body
+
+-- each byte is below the next
+unfoldable pub rises : List ℕ → Bool
+rises [] = true
+rises (c ∷ []) = true
+rises (c ∷ d ∷ m) = ltb c d && rises (d ∷ m)
+
+-- not empty and strictly ascending
+unfoldable pub ascending : List ℕ → Bool
+ascending m = ltb 0 (length m) && rises m
+
+-- is a byte of m in one of the pictures
+unfoldable pub shares : List (List ℕ) → List ℕ → Bool
+shares ps [] = false
+shares ps (c ∷ m) = inSome ps c || shares ps m
+
+-- the picture at a place, with the body m, after the pictures ps: 5, 3, 4
+unfoldable pub judgePicture : List (List ℕ) → ℕ → List ℕ → Answer
+judgePicture ps at m =
+    cond (leb mostPictures (length ps)) (Refused (PictureMany at))
+    (cond (ascending m) (cond (shares ps m) (Refused (PictureShared at)) Accepted) (Refused (PictureBody at)))
+
+-- ---- a rule's body
+
+-- is `k b` a symbol after p pictures: a byte, or a picture that stands earlier
+unfoldable pub isSymbol : ℕ → ℕ → ℕ → Bool
+isSymbol p k b = eqb k 0 || (eqb k 1 && ltb b p)
+
+-- what is wrong with `k b` at i, which is no symbol
+unfoldable pub faultAt : ℕ → ℕ → Symbols
+faultAt i k = cond (eqb k 1) (Undefined i) (UnknownKind i)
+
+-- the first pair that is no symbol, where the first stands at i
+unfoldable pub judgeSymbols : ℕ → ℕ → List ℕ → Symbols
+judgeSymbols p i [] = Clean
+judgeSymbols p i (k ∷ []) = Clean
+judgeSymbols p i (k ∷ b ∷ l) = cond (isSymbol p k b) (judgeSymbols p (i + 2) l) (faultAt i k)
+
+-- the symbols of a body: 256 times the kind plus the second byte
+unfoldable pub symbolsOf : List ℕ → List ℕ
+symbolsOf [] = []
+symbolsOf (k ∷ []) = []
+symbolsOf (k ∷ b ∷ l) = (256 * k + b) ∷ symbolsOf l
+
+-- the answer to what a rule's symbols are
+abbrev pub symbolsAnswer : ℕ → Symbols → Answer
+symbolsAnswer at Clean = Accepted
+symbolsAnswer at (UnknownKind i) = Refused (RuleBody at)
+symbolsAnswer at (Undefined i) = Refused (RuleBody at)
+
+-- the rule at a place, with the body l, after n rules and p pictures: 8, 7, 6
+unfoldable pub judgeRule : ℕ → ℕ → ℕ → List ℕ → Answer
+judgeRule n p at l =
+    cond (leb mostRules n) (Refused (RuleMany at))
+    (cond (ltb (2 * mostSymbols) (length l)) (Refused (RuleLong at))
+    (cond (ltb 0 (length l) && eqb (length l % 2) 0) (symbolsAnswer at (judgeSymbols p (at + 3) l)) (Refused (RuleBody at))))
+
+-- ---- a field
+
+-- what a field leads to: the place after it and what the book then holds, or a refusal
+pub data Outcome : Type 0 where
+  goes : ℕ → Content → Outcome
+  stops : Refusal → Outcome
+
+-- an accepted field leads to e and a
+unfoldable pub outcome : Answer → ℕ → Content → Outcome
+outcome Accepted e a = goes e a
+outcome (Refused r) e a = stops r
+
+-- a picture with the body m, which ends before e
+unfoldable pub pictureField : ℕ → ℕ → Content → List ℕ → Outcome
+pictureField at e a m = outcome (judgePicture (a .pictures) at m) e (withPicture a m)
+
+-- a rule with the body l, which ends before e
+unfoldable pub ruleField : ℕ → ℕ → Content → List ℕ → Outcome
+ruleField at e a l = outcome (judgeRule (length (a .rules)) (length (a .pictures)) at l) e (withRule a (symbolsOf l))
+
+-- the bytes from b on, before e
+abbrev pub part : List ℕ → ℕ → ℕ → List ℕ
+part s b e = take (e - b) (drop b s)
+
+-- a field by its header: 1, 2, then by its tag
+unfoldable pub fieldOf : List ℕ → ℕ → Content → Head → Outcome
+fieldOf s at a Short = stops (Cut at)
+fieldOf s at a Unknown = stops (OtherTag at)
+fieldOf s at a (Picture b e) = pictureField at e a (part s b e)
+fieldOf s at a (Rule b e) = ruleField at e a (part s b e)
+
+-- the field at a place, after what stands before
+unfoldable pub fieldAt : List ℕ → ℕ → Content → Outcome
+fieldAt s at a = fieldOf s at a (headAt s at)
+
+-- ---- a book
+
+-- what a whole book means
+pub data Meaning : Type 0 where
+  means : Content → Meaning
+  refused : Refusal → Meaning
+
+-- a field taken goes on, a refusal ends
+unfoldable pub follow : Outcome → (ℕ → Content → Meaning) → Meaning
+follow (goes e a) k = k e a
+follow (stops r) k = refused r
+
+-- after the last field of a book of n bytes: 9 where there is no rule
+unfoldable pub ended : ℕ → Content → Meaning
+ended n a = cond (eqb (length (a .rules)) 0) (refused (NoRule n)) (means a)
+
+-- the fields from a place on, at most n of them, after what stands before
+unfoldable pub fields : ℕ → List ℕ → ℕ → Content → Meaning
+fields zero s at a = ended (length s) a
+fields (suc n) s at a = cond (ltb at (length s)) (follow (fieldAt s at a) (λ e b. fields n s e b)) (ended (length s) a)
+
+-- no field is empty, so a book has at most as many as bytes
+unfoldable pub meaningOf : List ℕ → Meaning
+meaningOf s = fields (length s) s 0 nothing
+
+-- ---- what the reader hands back
+
+-- the record of what the book holds; of a refused one, that with no picture and no rule
+unfoldable pub handed : Meaning → ReadBook
+handed (means a) = record { answer = Accepted; book = recordOf a }
+handed (refused r) = record { answer = Refused r; book = recordOf nothing }
+
+-- the answer and the record for the bytes s
+unfoldable pub readOf : List ℕ → ReadBook
+readOf s = handed (meaningOf s)

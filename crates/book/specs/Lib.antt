@@ -1,0 +1,9 @@
+-- The definitions of the book crate. Assumes nothing.
+pub mod Limits
+pub mod Answers
+pub mod Content
+pub mod Format
+pub mod Sound
+pub mod Meant
+pub mod Numbers
+pub mod Leaves

@@ -1,0 +1,51 @@
+-- A book as rules, which is what tables and walks are about: the rules of a content, and those of the arrays of a record. Assumes nothing.
+use Prim.Native.Nat.{ℕ, zero, suc, _+_, _*_, _≤_}
+use mathlib.Core.Path.{_≡_}
+use mathlib.Core.Bool.{Bool, _&&_}
+use mathlib.Core.List.{List, [], _∷_}
+use lib.ListN.{getD}
+use lib.Dec.{eqb, ltb}
+use Rattle.meaning.specs.Rules.{Rules, fits}
+use Rattle.book.specs.declared.Book.{Book}
+use Rattle.book.specs.Limits.{mostPictures, mostRules, mostSymbols}
+use Rattle.book.specs.Content.{Content, member, table, recordOf}
+use Rattle.book.specs.Format.{means, meaningOf}
+use Rattle.book.specs.Sound.{Lawful}
+
+-- the rules of a book that holds a
+abbrev pub rulesOf : Content → Rules
+rulesOf a = record { rules = a .rules; member = λ p c. member c (getD (a .pictures) p []) }
+
+-- by the picture map, is the byte c a member of picture p
+unfoldable pub memberIn : List ℕ → ℕ → ℕ → Bool
+memberIn map p c = ltb c 256 && ltb p mostPictures && eqb (getD map c 0) p
+
+-- f 0, f 1, .. : n of them
+unfoldable pub lists : ℕ → (ℕ → List ℕ) → List (List ℕ)
+lists zero f = []
+lists (suc n) f = f zero ∷ lists n (λ k. f (suc k))
+
+-- the n rules of a record's symbols, lengths and picture map
+unfoldable pub rulesIn : List ℕ → List ℕ → List ℕ → ℕ → Rules
+rulesIn symbols lengths map n = record {
+  rules = lists n (λ k. table (getD lengths k 0) (λ j. getD symbols (mostSymbols * k + j) 0));
+  member = memberIn map;
+}
+
+-- the rules of a record
+abbrev pub rulesHeld : Book → Rules
+rulesHeld b = rulesIn (b .symbols) (b .lengths) (b .picture) (b .rules)
+
+-- t says whether the byte c fits the symbol s, whichever rules the map stands beside
+abbrev pub Fits : List ℕ → ℕ → ℕ → Bool → Type 0
+Fits map c s t = (symbols lengths : List ℕ) (n : ℕ) → t ≡ fits (rulesIn symbols lengths map n) c s
+
+-- the bytes s are accepted with the record b, whose rules are those of what the book holds
+pub record Accepting (s : List ℕ) (b : Book) : Type 0 where
+  pub content : Content
+  pub meant : meaningOf s ≡ means content
+  pub lawful : Lawful s content
+  pub held : b ≡ recordOf content
+  pub same : rulesHeld b ≡ rulesOf content
+  pub few : b .rules ≤ mostRules
+  pub short : (k : ℕ) → getD (b .lengths) k 0 ≤ mostSymbols

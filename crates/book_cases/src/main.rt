@@ -214,29 +214,44 @@ fn largest_book() {
 
 // ---- books too long to write out
 
+fn next(value: u8, more: u8) -> u8 {
+    ((value as u16 + more as u16) % 256) as u8
+}
+
+// Every `step` places from `from` on, before `to`: `first`, and each time `more` added.
+fn put(a: &mut [u8], from: usize, to: usize, step: usize, first: u8, more: u8)
+    requires { ⌜ 0 < step ⌝ }
+{
+    let mut value = first;
+    let mut i = from;
+    while i < to {
+        if a.len() <= i {
+            return;
+        }
+        a[i] = value;
+        if to - i <= step {
+            return;
+        }
+        i += step;
+        value = next(value, more);
+    }
+}
+
 // A rule with a body of `size` bytes, pairs of 0 and the byte a.
 fn rule_of(size: u8) -> [u8; 133] {
     let mut a = [0u8; 133];
     a[0] = 0x52;
     a[2] = size;
-    let mut j: usize = 0;
-    while j < 65 {
-        a[2 * j + 4] = 0x61;
-        j += 1;
-    }
+    put(&mut a, 4, 133, 2, 0x61, 0);
     a
 }
 
 // 65 rules of the byte a, the last with a body of `size` bytes, and room for 130.
 fn sixty_five(size: u8) -> [u8; 453] {
     let mut a = [0u8; 453];
-    let mut k: usize = 0;
-    while k < 65 {
-        a[5 * k] = 0x52;
-        a[5 * k + 2] = 2;
-        a[5 * k + 4] = 0x61;
-        k += 1;
-    }
+    put(&mut a, 0, 325, 5, 0x52, 0);
+    put(&mut a, 2, 325, 5, 2, 0);
+    put(&mut a, 4, 325, 5, 0x61, 0);
     a[322] = size;
     a
 }
@@ -244,13 +259,9 @@ fn sixty_five(size: u8) -> [u8; 453] {
 // 17 pictures of one byte each, picture k of the byte k, but the last of `size` bytes from `member` on; and room for a rule in its place.
 fn seventeen(size: u8, member: u8) -> [u8; 69] {
     let mut a = [0u8; 69];
-    let mut k: usize = 0;
-    while k < 17 {
-        a[4 * k] = 0x50;
-        a[4 * k + 2] = 1;
-        a[4 * k + 3] = (k % 256) as u8;
-        k += 1;
-    }
+    put(&mut a, 0, 68, 4, 0x50, 0);
+    put(&mut a, 2, 68, 4, 1, 0);
+    put(&mut a, 3, 68, 4, 0, 1);
     a[66] = size;
     a[67] = member;
     a
@@ -261,11 +272,7 @@ fn full_picture() -> [u8; 264] {
     let mut a = [0u8; 264];
     a[0] = 0x50;
     a[1] = 1;
-    let mut c: usize = 0;
-    while c < 256 {
-        a[c + 3] = (c % 256) as u8;
-        c += 1;
-    }
+    put(&mut a, 3, 259, 1, 0, 1);
     a[259] = 0x52;
     a[261] = 2;
     a[262] = 1;
@@ -276,46 +283,30 @@ fn full_picture() -> [u8; 264] {
 fn largest() -> [u8; 8691] {
     let mut a = [0u8; 8691];
     put_pictures(&mut a);
-    put_members(&mut a);
     put_rules(&mut a);
-    put_symbols(&mut a);
     a[8688] = 0x52;
     a
 }
 
-// The headers of the pictures: 19 bytes from one to the next.
-fn put_pictures(a: &mut [u8; 8691]) {
-    let mut p: usize = 0;
-    while p < 16 {
-        a[19 * p] = 0x50;
-        a[19 * p + 2] = 16;
-        p += 1;
+// 19 bytes from one picture to the next.
+fn put_pictures(a: &mut [u8]) {
+    put(a, 0, 304, 19, 0x50, 0);
+    put(a, 2, 304, 19, 16, 0);
+    let mut j: u8 = 0;
+    while j < 16 {
+        put(a, 3 + small(j), 304, 19, j, 16);
+        j += 1;
     }
 }
 
-fn put_members(a: &mut [u8; 8691]) {
-    let mut c: usize = 0;
-    while c < 256 {
-        a[19 * (c / 16) + c % 16 + 3] = (c % 256) as u8;
-        c += 1;
-    }
-}
-
-// The headers of the rules: 131 bytes from one to the next, after the 304 of the pictures.
-fn put_rules(a: &mut [u8; 8691]) {
-    let mut k: usize = 0;
-    while k < 64 {
-        a[131 * k + 304] = 0x52;
-        a[131 * k + 306] = 128;
-        k += 1;
-    }
-}
-
-fn put_symbols(a: &mut [u8; 8691]) {
-    let mut i: usize = 0;
-    while i < 4096 {
-        a[131 * (i / 64) + 2 * (i % 64) + 307] = 1;
-        a[131 * (i / 64) + 2 * (i % 64) + 308] = (i % 16) as u8;
-        i += 1;
+// 131 bytes from one rule to the next, after the 304 of the pictures.
+fn put_rules(a: &mut [u8]) {
+    put(a, 304, 8688, 131, 0x52, 0);
+    put(a, 306, 8688, 131, 128, 0);
+    let mut j: u8 = 0;
+    while j < 64 {
+        put(a, 307 + 2 * small(j), 8688, 131, 1, 0);
+        put(a, 308 + 2 * small(j), 8688, 131, j % 16, 0);
+        j += 1;
     }
 }

@@ -1,44 +1,61 @@
--- `book_cases::put_rules` meets its contract: each place is inside the book. Assumes nothing.
-use Prim.Native.Nat.{_-_}
+-- `book_cases::put_rules` is safe and ends. Assumes nothing.
+use mathlib.Core.Path.{_≡_}
+use Prim.Native.Nat.{_-_, _≤_}
 use borrow.Author.Needs.{needs}
+use lib.ListN.{length}
 use Rattle.book_cases.proofs.put_rules.Statement.{statement}
 use Rattle.book_cases.proofs.put_rules.Tie as tie
 
 abbrev Inv-loop : tie.InvT-loop
-Inv-loop a₀ k₀ a k = Unit
+Inv-loop a₀ j₀ a j = (length a ≡ length a₀) × (j ≤ 64)
 
 abbrev μ-loop : tie.MeasureT-loop
-μ-loop a₀ k₀ a k = 64 - k
+μ-loop a₀ j₀ a j = 64 - j
+
+put-requires : tie.Need-put-requires Inv-loop μ-loop
+put-requires c κs = search needs
+
+put-requires-2 : tie.Need-put-requires-2 Inv-loop μ-loop
+put-requires-2 c κs = search needs
 
 loop-holds : tie.Need-loop-holds Inv-loop μ-loop
 loop-holds c = search needs
 
-mul-a : tie.Need-mul-a Inv-loop μ-loop
-mul-a c = search needs
+small-requires : tie.Need-small-requires Inv-loop μ-loop
+small-requires c κs = search needs
 
-add-a : tie.Need-add-a Inv-loop μ-loop
-add-a c = search needs
+mul-put : tie.Need-mul-put Inv-loop μ-loop
+mul-put c = search needs
 
-element-write-a : tie.Need-element-write-a Inv-loop μ-loop
-element-write-a c = search needs
+add-put : tie.Need-add-put Inv-loop μ-loop
+add-put c = search needs
 
-mul-a-2 : tie.Need-mul-a-2 Inv-loop μ-loop
-mul-a-2 c = search needs
+put-requires-3 : tie.Need-put-requires-3 Inv-loop μ-loop
+put-requires-3 c κs = search needs
 
-add-a-2 : tie.Need-add-a-2 Inv-loop μ-loop
-add-a-2 c = search needs
+small-requires-2 : tie.Need-small-requires-2 Inv-loop μ-loop
+small-requires-2 c κs = search needs
 
-element-write-a-2 : tie.Need-element-write-a-2 Inv-loop μ-loop
-element-write-a-2 c = search needs
+mul-put-2 : tie.Need-mul-put-2 Inv-loop μ-loop
+mul-put-2 c = search needs
 
-add-k : tie.Need-add-k Inv-loop μ-loop
-add-k c = search needs
+add-put-2 : tie.Need-add-put-2 Inv-loop μ-loop
+add-put-2 c = search needs
+
+put-requires-4 : tie.Need-put-requires-4 Inv-loop μ-loop
+put-requires-4 c κs = search needs
+
+add-j : tie.Need-add-j Inv-loop μ-loop
+add-j c = search needs
 
 loop-less : tie.Need-loop-less Inv-loop μ-loop
 loop-less c = search needs
 
 loop-again : tie.Need-loop-again Inv-loop μ-loop
 loop-again c = search needs
+
+same-length : tie.Need-same-length Inv-loop μ-loop
+same-length c = search needs
 
 returns : tie.Need-returns Inv-loop μ-loop
 returns c = search needs
@@ -49,14 +66,19 @@ put-rules-spec =
     (tie.spec
     Inv-loop
     μ-loop
+    put-requires
+    put-requires-2
     loop-holds
-    mul-a
-    add-a
-    element-write-a
-    mul-a-2
-    add-a-2
-    element-write-a-2
-    add-k
+    small-requires
+    mul-put
+    add-put
+    put-requires-3
+    small-requires-2
+    mul-put-2
+    add-put-2
+    put-requires-4
+    add-j
     loop-less
     loop-again
+    same-length
     returns)

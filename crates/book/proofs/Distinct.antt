@@ -1,10 +1,11 @@
 -- The members of a book's pictures, one after the other: they are distinct, and so at most as many as byte values. Assumes nothing.
-use Prim.Native.Nat.{ℕ, zero, suc, _+_, _≤_, _<_}
-use mathlib.Core.Path.{_≡_, refl, sym, _∙_}
+use Prim.Native.Nat.{ℕ, zero, suc, _+_, _-_, _≤_, _<_}
+use mathlib.Core.Path.{_≡_, refl, sym, ap, _∙_}
 use mathlib.Core.Bool.{true, false}
 use mathlib.Core.List.{List, [], _∷_, _++_, append-assoc, append-nil}
 use native.Mathlib.Omega.{arith}
 use lib.ListN.{length, getD, length-append, List·getD-append}
+use lib.Seq.{getD-append-add}
 use Rattle.rows.proofs.Pigeon.{pigeon}
 use Rattle.book.specs.Content.{member, inSome}
 use Rattle.book.specs.Format.{rises, shares}
@@ -35,11 +36,9 @@ Distinct xs = (i j : ℕ) → i < j → j < length xs → getD xs i 0 ≡ getD x
 
 -- a place of the second list
 getD-append-after : (xs ys : List ℕ) (i : ℕ) → length xs ≤ i → (j : ℕ) × (i ≡ length xs + j) × (getD (xs ++ ys) i 0 ≡ getD ys j 0)
-getD-append-after [] ys i h = (i, omega arith, refl)
-getD-append-after (x ∷ xs) ys zero h = absurd (omega arith)
-getD-append-after (x ∷ xs) ys (suc i) h =
-    let r = getD-append-after xs ys i (omega arith) in
-    (r .0, omega (arith, r .1), r .2)
+getD-append-after xs ys i h =
+    let e : i ≡ length xs + (i - length xs) = omega arith in
+    (i - length xs, e, ap (λ (k : ℕ). getD (xs ++ ys) k 0) e ∙ getD-append-add xs ys (i - length xs) 0)
 
 -- two lists that share no element
 distinct-append : (xs m : List ℕ) → Distinct xs → Distinct m

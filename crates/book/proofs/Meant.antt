@@ -13,23 +13,11 @@ use Rattle.book.specs.declared.Book.{Book}
 use Rattle.book.specs.Limits.{mostPictures, mostRules, mostSymbols}
 use Rattle.book.specs.Content.{Content, member, inSome, pictureFrom, table, rows, sizes, mapOf, recordOf}
 use Rattle.book.specs.Sound.{Sound}
-use Rattle.book.specs.Meant.{rulesOf, memberIn, lists, rulesIn, rulesHeld}
+use Rattle.book.specs.Meant.{rulesOf, memberIn, rulesIn, rulesHeld}
 use Rattle.book.proofs.Cases.{by-test, by-lt, by-eq, clash}
 use Rattle.book.proofs.Tables.{length-table, getD-table, is-table, getD-rows, getD-sizes}
 use Rattle.book.proofs.Pictures.{getD-map, picture-none, picture-of}
 use Rattle.book.proofs.Members.{member-some}
-
--- a list of lists by its function
-length-lists : (n : ℕ) (f : ℕ → List ℕ) → length (lists n f) ≡ n
-unfolding lists
-length-lists zero f = refl
-length-lists (suc n) f = ap suc (length-lists n (λ k. f (suc k)))
-
-getD-lists : (n : ℕ) (f : ℕ → List ℕ) (k : ℕ) → k < n → getD (lists n f) k [] ≡ f k
-unfolding lists
-getD-lists zero f k h = absurd (omega arith)
-getD-lists (suc n) f zero h = refl
-getD-lists (suc n) f (suc k) h = getD-lists n (λ i. f (suc i)) k (omega arith)
 
 -- ---- place by place
 
@@ -39,15 +27,15 @@ module _ (symbols lengths picture : List ℕ) (n : ℕ) where
 
   pub count-in : count r ≡ n
   unfolding rulesIn
-  count-in = length-lists n _
+  count-in = length-table n _
 
   pub size-in : (k : ℕ) → k < n → size r k ≡ getD lengths k 0
   unfolding rulesIn
-  size-in k h = ap length (getD-lists n _ k h) ∙ length-table (getD lengths k 0) _
+  size-in k h = ap length (getD-table n _ k [] h) ∙ length-table (getD lengths k 0) _
 
   pub symbol-in : (k j : ℕ) → k < n → j < getD lengths k 0 → symbol r k j ≡ getD symbols (mostSymbols * k + j) 0
   unfolding rulesIn
-  symbol-in k j h i = ap (λ l. getD l j 0) (getD-lists n _ k h) ∙ getD-table (getD lengths k 0) _ j 0 i
+  symbol-in k j h i = ap (λ l. getD l j 0) (getD-table n _ k [] h) ∙ getD-table (getD lengths k 0) _ j 0 i
 
 -- ---- the rules of a book
 
@@ -56,14 +44,14 @@ module _ (a : Content) (S : Sound a) where
   ps = a .pictures
 
   -- the rules by the arrays and by the lists
-  rules-same : lists (length (a .rules)) (λ k. table (getD (sizes mostRules (a .rules)) k 0) (λ j. getD (rows mostRules mostSymbols (a .rules)) (mostSymbols * k + j) 0)) ≡ a .rules
+  rules-same : table (length (a .rules)) (λ k. table (getD (sizes mostRules (a .rules)) k 0) (λ j. getD (rows mostRules mostSymbols (a .rules)) (mostSymbols * k + j) 0)) ≡ a .rules
   rules-same =
-      ext-getD [] (lists (length (a .rules)) _) (a .rules) (length-lists (length (a .rules)) _)
+      ext-getD [] (table (length (a .rules)) _) (a .rules) (length-table (length (a .rules)) _)
       (λ k h.
-      let i : k < length (a .rules) = rw length-lists at h in
+      let i : k < length (a .rules) = rw length-table at h in
       let m : k < mostRules = omega (arith, S .fewRules) in
       let s = getD-sizes mostRules (a .rules) k m in
-      getD-lists (length (a .rules)) _ k i
+      getD-table (length (a .rules)) _ k [] i
       ∙ sym (is-table (getD (sizes mostRules (a .rules)) k 0) _ (getD (a .rules) k []) (sym s)
       (λ j l. sym (getD-rows mostRules mostSymbols (a .rules) k j m (omega (arith, S .short k))))))
 

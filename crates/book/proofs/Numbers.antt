@@ -1,4 +1,4 @@
--- What a read hands back is what its bytes mean, in the numbers of the paper; and case 1 by computation. Assumes nothing.
+-- What a read hands back is what its bytes mean, in the numbers of the paper; and small books by computation. Assumes nothing.
 use Prim.Native.Nat.{ℕ, _≤_}
 use mathlib.Core.Path.{_≡_, refl, ap}
 use mathlib.Core.List.{List}
@@ -6,9 +6,9 @@ use native.Mathlib.Omega.{arith}
 use Rattle.book.specs.declared.Refusal.{Refusal}
 use Rattle.book.specs.declared.Refusal.the-variants.{Cut, OtherTag, PictureBody, PictureShared, PictureMany, RuleBody, RuleLong, RuleMany, NoRule}
 use Rattle.book.specs.Answers.{number, numberOf, valueOf}
-use Rattle.book.specs.Content.{Content}
-use Rattle.book.specs.Format.{Meaning, means, refused, ended, fields, meaningOf, handed, readOf}
-use Rattle.book.specs.Numbers.{IsAccepted, IsRefused, Numbered, Case1}
+use Rattle.book.specs.Content.{Content, member, inSome}
+use Rattle.book.specs.Format.{headAt, rises, ascending, shares, judgePicture, isSymbol, faultAt, judgeSymbols, symbolsOf, judgeRule, outcome, pictureField, ruleField, fieldOf, fieldAt, Meaning, means, refused, follow, ended, fields, meaningOf, handed, readOf}
+use Rattle.book.specs.Numbers.{IsAccepted, IsRefused, Numbered, runs, cases, Answered}
 
 -- a refusal's number is 1 to 9
 number-some : (r : Refusal) → (1 ≤ number r) × (number r ≤ 9)
@@ -56,6 +56,6 @@ module _ (s : List ℕ) where
     other = by-other (meaningOf s) refl;
   }
 
-pub case-1 : Case1
-unfolding readOf handed meaningOf fields ended
-case-1 = (refl, refl)
+pub answered : Answered cases
+unfolding runs readOf handed meaningOf fields follow ended fieldAt fieldOf headAt pictureField judgePicture ascending rises shares inSome member ruleField outcome judgeRule judgeSymbols isSymbol faultAt symbolsOf
+answered = (refl, refl, (refl, refl, (refl, refl, (refl, refl, (refl, refl, (refl, refl, (refl, refl, (refl, refl, (refl, refl, (refl, refl, tt))))))))))

@@ -10,12 +10,12 @@ use lib.Seq.{sets, length-sets, ext-getD, getD-set-same, getD-set-other, getD-ap
 use Rattle.book.specs.Content.{symbolAt, table, rows, sizes}
 use Rattle.book.proofs.Cases.{by-lt, by-eq}
 
-pub length-table : (n : ℕ) (f : ℕ → ℕ) → length (table n f) ≡ n
+pub length-table : {A : Type 0} (n : ℕ) (f : ℕ → A) → length (table n f) ≡ n
 unfolding table
 length-table zero f = refl
 length-table (suc n) f = ap suc (length-table n (λ k. f (suc k)))
 
-pub getD-table : (n : ℕ) (f : ℕ → ℕ) (i d : ℕ) → i < n → getD (table n f) i d ≡ f i
+pub getD-table : {A : Type 0} (n : ℕ) (f : ℕ → A) (i : ℕ) (d : A) → i < n → getD (table n f) i d ≡ f i
 unfolding table
 getD-table zero f i d h = absurd (not-suc-le-zero h)
 getD-table (suc n) f zero d h = refl

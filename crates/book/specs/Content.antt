@@ -48,7 +48,7 @@ symbolAt rs k j = getD (getD rs k []) j 0
 -- ---- the record
 
 -- f 0, f 1, .. : n of them
-unfoldable pub table : ℕ → (ℕ → ℕ) → List ℕ
+unfoldable pub table : {A : Type 0} → ℕ → (ℕ → A) → List A
 table zero f = []
 table (suc n) f = f zero ∷ table n (λ k. f (suc k))
 

@@ -20,15 +20,10 @@ rulesOf a = record { rules = a .rules; member = λ p c. member c (getD (a .pictu
 unfoldable pub memberIn : List ℕ → ℕ → ℕ → Bool
 memberIn map p c = ltb c 256 && ltb p mostPictures && eqb (getD map c 0) p
 
--- f 0, f 1, .. : n of them
-unfoldable pub lists : ℕ → (ℕ → List ℕ) → List (List ℕ)
-lists zero f = []
-lists (suc n) f = f zero ∷ lists n (λ k. f (suc k))
-
 -- the n rules of a record's symbols, lengths and picture map
 unfoldable pub rulesIn : List ℕ → List ℕ → List ℕ → ℕ → Rules
 rulesIn symbols lengths map n = record {
-  rules = lists n (λ k. table (getD lengths k 0) (λ j. getD symbols (mostSymbols * k + j) 0));
+  rules = table n (λ k. table (getD lengths k 0) (λ j. getD symbols (mostSymbols * k + j) 0));
   member = memberIn map;
 }
 

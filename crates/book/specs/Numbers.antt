@@ -1,7 +1,8 @@
--- What a read hands back, in the numbers of the paper. Assumes nothing.
-use Prim.Native.Nat.{ℕ, _≤_}
+-- What a read hands back, in the numbers of the paper; and small books with theirs. Assumes nothing.
+use Prim.Native.Nat.{ℕ, zero, suc, _≤_}
 use mathlib.Core.Path.{_≡_}
-use mathlib.Core.List.{List, []}
+use mathlib.Core.List.{List, [], _∷_, _++_}
+use lib.ListN.{replicate}
 use Rattle.book.specs.declared.Refusal.{Refusal}
 use Rattle.book.specs.Answers.{number, value, numberOf, valueOf}
 use Rattle.book.specs.Content.{Content, nothing, recordOf}
@@ -27,6 +28,35 @@ pub record Numbered (s : List ℕ) : Type 0 where
   pub zero : numberOf (readOf s .answer) ≡ 0 → (a : Content) × (meaningOf s ≡ means a)
   pub other : 1 ≤ numberOf (readOf s .answer) → (r : Refusal) × (meaningOf s ≡ refused r)
 
--- case 1 of the paper: the empty book
-abbrev pub Case1 : Type 0
-Case1 = (numberOf (readOf [] .answer) ≡ 9) × (valueOf (readOf [] .answer) ≡ 0)
+-- ---- small books
+
+-- a book, with the number and the value of its answer
+pub record Case : Type 0 where
+  pub bytes : List ℕ
+  pub number : ℕ
+  pub value : ℕ
+
+-- f 0, f 1, .. : n of them, one after the other
+unfoldable pub runs : ℕ → (ℕ → List ℕ) → List ℕ
+runs zero f = []
+runs (suc n) f = runs n f ++ f n
+
+-- the empty book, which is case 1 of the paper; the rule `a`; and a small book for each of the other refusals
+abbrev pub cases : List Case
+cases =
+    record { bytes = []; number = 9; value = 0 }
+    ∷ record { bytes = 0x52 ∷ 0 ∷ 2 ∷ 0 ∷ 97 ∷ []; number = 0; value = 0 }
+    ∷ record { bytes = 0x52 ∷ 0 ∷ 2 ∷ 0 ∷ 97 ∷ 0x52 ∷ []; number = 1; value = 5 }
+    ∷ record { bytes = 0x52 ∷ 0 ∷ 2 ∷ 0 ∷ 97 ∷ 0x51 ∷ 0 ∷ 0 ∷ []; number = 2; value = 5 }
+    ∷ record { bytes = 0x52 ∷ 0 ∷ 2 ∷ 0 ∷ 97 ∷ 0x50 ∷ 0 ∷ 0 ∷ []; number = 3; value = 5 }
+    ∷ record { bytes = 0x50 ∷ 0 ∷ 1 ∷ 97 ∷ 0x50 ∷ 0 ∷ 1 ∷ 97 ∷ []; number = 4; value = 4 }
+    ∷ record { bytes = runs 17 (λ k. 0x50 ∷ 0 ∷ 1 ∷ k ∷ []); number = 5; value = 64 }
+    ∷ record { bytes = 0x50 ∷ 0 ∷ 1 ∷ 97 ∷ 0x52 ∷ 0 ∷ 2 ∷ 1 ∷ 1 ∷ []; number = 6; value = 4 }
+    ∷ record { bytes = 0x50 ∷ 0 ∷ 1 ∷ 97 ∷ 0x52 ∷ 0 ∷ 130 ∷ replicate 130 0; number = 7; value = 4 }
+    ∷ record { bytes = runs 65 (λ k. 0x52 ∷ 0 ∷ 2 ∷ 0 ∷ 97 ∷ []); number = 8; value = 320 }
+    ∷ []
+
+-- each is answered so
+abbrev pub Answered : List Case → Type 0
+Answered [] = Unit {0}
+Answered (c ∷ cs) = (numberOf (readOf (c .bytes) .answer) ≡ c .number) × (valueOf (readOf (c .bytes) .answer) ≡ c .value) × Answered cs

@@ -1,9 +1,10 @@
--- The rows of the paper's books and their numbers, by one computed test for each. Assumes nothing.
+-- The rows of the books X, Y and Z and their numbers, by one computed test for each; and the fallbacks of the paper's texts, computed. Assumes nothing.
 use mathlib.Core.Path.{refl}
 use Rattle.sets.specs.Sets.{setWhere}
 use Rattle.meaning.specs.Rules.{fits, fitsAt, stands}
 use Rattle.meaning.specs.Standing.{level, opens, largest, held, live, ends, out}
-use Rattle.meaning.specs.Books.{Right, X, Y}
+use Rattle.meaning.specs.Falls.{longest, nextLongest, fitsWith, fallsFrom, falls, fallsIn}
+use Rattle.meaning.specs.Books.{Right, X, Y, Z, Texts}
 use Rattle.meaning.proofs.Tested.{below}
 use Rattle.meaning.proofs.Checked.{sameText, isBefore, anyOf, bound, right}
 
@@ -14,3 +15,11 @@ X-right = right X (record { root = refl; some = tt; texts = tt; differ = tt; clo
 pub Y-right : Right Y
 unfolding sameText isBefore anyOf bound below level stands fitsAt fits setWhere opens largest held live ends out
 Y-right = right Y (record { root = refl; some = tt; texts = tt; differ = tt; closed = tt; falls = tt; helds = tt; lives = tt; outs = tt })
+
+pub Z-right : Right Z
+unfolding sameText isBefore anyOf bound below level stands fitsAt fits setWhere opens largest held live ends out
+Z-right = right Z (record { root = refl; some = tt; texts = tt; differ = tt; closed = tt; falls = tt; helds = tt; lives = tt; outs = tt })
+
+pub texts : Texts
+unfolding fallsIn falls fallsFrom fitsWith nextLongest longest level stands fitsAt fits setWhere opens largest held
+texts = record { aabab = (refl, refl); aabbx = (refl, refl); aab1 = (refl, refl) }

@@ -3,7 +3,7 @@
 -- steps hold of any layout. Assumes nothing.
 use mathlib.Core.Path.{_≡_, refl, sym, _∙_}
 use mathlib.Core.Logic.{_≢_, inl, inr}
-use mathlib.Core.Bool.{Bool, true, false, _||_, or-true, true≢false}
+use mathlib.Core.Bool.{Bool, true, false, or-true, true≢false}
 use mathlib.Core.List.{List, [], _∷_, _++_}
 use Prim.Native.Nat.{ℕ, zero, suc, _+_, _≤_, _<_}
 use native.Mathlib.Nat.{eq-zero-or-pos}
@@ -11,7 +11,6 @@ use native.Mathlib.Omega.{arith}
 use native.Mathlib.Decide.{decLt}
 use native.Mathlib.Numerals.{add-one}
 use lib.Bits.{bitOr}
-use lib.Dec.{eqb}
 use lib.ListN.{length, getD, List·getD-append}
 use lib.Seq.{getD-append-seam}
 use borrow.Author.Tests.{eq-eqb, ne-eqb}
@@ -19,8 +18,8 @@ use Rattle.rows.specs.Rows.{IsRow, HasRow, Ascending, IsRows, MoreThan}
 use Rattle.rows.proofs.Rows.{Congruence, row-same, row-own, row-append, one-row}
 use Rattle.rows.proofs.Build.{Partial, start, found, added, next, finish, crowded, length-snoc, row-new}
 use Rattle.meaning.specs.Rules.{Rules}
-use Rattle.meaning.specs.Standing.{Same, held, live, out, extends}
-use Rattle.meaning.specs.Tables.{noEntry, Columns, IsFall, Numbers, Entry, EntryAt, Gotos}
+use Rattle.meaning.specs.Standing.{Same, held, live, out}
+use Rattle.meaning.specs.Tables.{noEntry, Columns, IsFall, Numbers, Entry, goesOnAt, EntryAt, Gotos}
 use Rattle.meaning.specs.Step.{nextLive, finished, Follows}
 use Rattle.meaning.proofs.Levels.{same-refl, same-sym, same-trans}
 use Rattle.meaning.proofs.Held.{held-nil, live-none, same-held, same-live}
@@ -112,7 +111,7 @@ pub record Filling (r : Rules) (ts : List (List ℕ)) (goto : ℕ → ℕ → �
   pub numbers : Numbers r ts x
   pub done : (q e : ℕ) → q < s → e < 256 → EntryAt r ts goto q e
   pub leads : (e : ℕ) → e < 256 → Via r ts s e (via e)
-  pub part : (e : ℕ) → e < c → Entry r ts (getD ts s []) e (row e) (eqb s 0 || extends r (getD ts s []) e)
+  pub part : (e : ℕ) → e < c → Entry r ts (getD ts s []) e (row e) (goesOnAt r ts s e)
 
 module _ {r : Rules} {ts : List (List ℕ)} {goto : ℕ → ℕ → ℕ} {via row : ℕ → ℕ} {x : Columns} {s c : ℕ} (f : Filling r ts goto via row x s c)
     (l : s < length ts) (byte : c < 256) where
@@ -121,9 +120,6 @@ module _ {r : Rules} {ts : List (List ℕ)} {goto : ℕ → ℕ → ℕ} {via ro
 
   abbrev t : List ℕ
   t = getD ts s []
-
-  abbrev goes : Bool
-  goes = eqb s 0 || extends r t c
 
   asc : Ascending (Same r) ts
   asc = f .partial .ascending
@@ -142,13 +138,13 @@ module _ {r : Rules} {ts : List (List ℕ)} {goto : ℕ → ℕ → ℕ} {via ro
   onward = nextLive r (x .held s) (x .live s) c
 
   -- the next entry is right, and the byte has a row
-  filled : {e : ℕ} {row′ : ℕ → ℕ} → Put c e row row′ → Entry r ts t c e goes → HasRow (Same r) ts (c ∷ t) → Filling r ts goto via row′ x s (c + 1)
+  filled : {e : ℕ} {row′ : ℕ → ℕ} → Put c e row row′ → Entry r ts t c e (goesOnAt r ts s c) → HasRow (Same r) ts (c ∷ t) → Filling r ts goto via row′ x s (c + 1)
   filled p y h = record {
     partial = found C (f .partial) h;
     numbers = f .numbers;
     done = f .done;
     leads = f .leads;
-    part = λ i k. put-all (λ i z. Entry r ts t i z (eqb s 0 || extends r t i)) p (f .part) y i (omega arith);
+    part = λ i k. put-all (λ i z. Entry r ts t i z (goesOnAt r ts s i)) p (f .part) y i (omega arith);
   }
 
   -- no rule goes on
@@ -178,7 +174,7 @@ module _ {r : Rules} {ts : List (List ℕ)} {goto : ℕ → ℕ → ℕ} {via ro
     goes-on : grows r t c ≡ true
     goes-on = grows-some r t c (rw (f .numbers .held-is s l, f .numbers .live-is s l) at some)
 
-    on-goes : goes ≡ true
+    on-goes : goesOnAt r ts s c ≡ true
     on-goes =
         elim (eq-zero-or-pos s) [ inl z ↦ rw (eq-eqb s 0 z) | inr p ↦ rw (extends-grows r t c (some-held p), goes-on, or-true) ]
 
@@ -233,7 +229,7 @@ module _ {r : Rules} {ts : List (List ℕ)} {goto : ℕ → ℕ → ℕ} {via ro
             record { first = y .first; later = λ p. rw (List·getD-append ts (u ∷ []) [] s l) (row-append C (u ∷ []) (y .later p)) };
         part =
             rw (List·getD-append ts (u ∷ []) [] s l) (λ i k.
-            put-all (λ i z. Entry r (ts ++ u ∷ []) t i z (eqb s 0 || extends r t i)) p
+            put-all (λ i z. Entry r (ts ++ u ∷ []) t i z (goesOnAt r ts s i)) p
             (λ i h. entry-append (u ∷ []) (f .part i h)) (entry-on on-goes (row-new C ts u)) i (omega arith));
       }
 

@@ -10,7 +10,7 @@ use lib.ListN.{length, take}
 use lib.Seq.{length-take-le, take-take}
 use Rattle.meaning.specs.Rules.{Rules}
 use Rattle.meaning.specs.Standing.{Same, opens, held, extends}
-use Rattle.meaning.specs.Falls.{longest, fallsFrom, falls, fallsIn}
+use Rattle.meaning.specs.Falls.{longest, nextLongest, fitsWith, fallsFrom, falls, fallsIn}
 use Rattle.meaning.proofs.Levels.{level-cons, level-cons-none, level-take}
 use Rattle.meaning.proofs.Held.{held-le, held-top, held-nil, held-take, le-held, same-held}
 use Rattle.meaning.proofs.Shorter.{shorter, held-shorter}
@@ -23,7 +23,8 @@ unfolding longest
 length-longest r t = length-take-le (held r t) t (held-le r t)
 
 -- a proper ending has a turn fewer to go
-length-next : (r : Rules) (b : ℕ) (u : List ℕ) → length (longest r (take (length u) (b ∷ u))) ≤ length u
+length-next : (r : Rules) (b : ℕ) (u : List ℕ) → length (nextLongest r (b ∷ u)) ≤ length u
+unfolding nextLongest
 length-next r b u = rw (length-longest r (take (length u) (b ∷ u))) (held-take r (length u) (b ∷ u))
 
 -- turns beyond the bytes of u change nothing
@@ -37,13 +38,13 @@ enough r c (suc n) zero (b ∷ u) h l = absurd (omega arith)
 enough r c (suc n) (suc m) [] h l = refl
 enough r c (suc n) (suc m) (b ∷ u) h l =
     let d = length-next r b u in
-    rw (enough r c n m (longest r (take (length u) (b ∷ u))) (omega arith) (omega arith))
+    rw (enough r c n m (nextLongest r (b ∷ u)) (omega arith) (omega arith))
 
 -- ---- the fallbacks of one byte, from the held length
 
-opens-longest : (r : Rules) (t : List ℕ) (c : ℕ) → opens r (c ∷ longest r t) (suc (length (longest r t))) ≡ grows r t c
-unfolding opens longest
-opens-longest r t c =
+longest-grows : (r : Rules) (t : List ℕ) (c : ℕ) → fitsWith r (longest r t) c ≡ grows r t c
+unfolding fitsWith opens longest
+longest-grows r t c =
     rw (length-longest r t, level-cons r c (take (held r t) t) (held r t), level-take r (held r t) t (held r t) (le-refl (held r t)), level-cons r c t (held r t))
 
 falls-first : (r : Rules) (t : List ℕ) (c : ℕ) → held r t ≡ 0 → falls r t c ≡ 0
@@ -57,15 +58,15 @@ falls-grows r t c e = go (longest r t) refl (length t)
     go : (v : List ℕ) → longest r t ≡ v → (n : ℕ) → fallsFrom r c n v ≡ 0
     go v q zero = refl
     go [] q (suc n) = refl
-    go (b ∷ u) q (suc n) = rw (rw q at (opens-longest r t c), e)
+    go (b ∷ u) q (suc n) = rw (rw q at (longest-grows r t c), e)
 
 -- without its oldest byte the longest ending is the shorter text
-next-shorter : (r : Rules) (t : List ℕ) (b : ℕ) (u : List ℕ) → longest r t ≡ b ∷ u → take (length u) (b ∷ u) ≡ shorter r t
-unfolding longest shorter
+next-shorter : (r : Rules) (t : List ℕ) (b : ℕ) (u : List ℕ) → longest r t ≡ b ∷ u → nextLongest r (b ∷ u) ≡ longest r (shorter r t)
+unfolding nextLongest longest shorter
 next-shorter r t b u q =
     let n : suc (length u) ≡ held r t = ap length (sym q) ∙ length-longest r t in
     let m : length u ≡ pred (held r t) = omega arith in
-    ap (take (length u)) (sym q) ∙ take-take (length u) (held r t) t (omega arith) ∙ ap (λ (x : ℕ). take x t) m
+    ap (longest r) (ap (take (length u)) (sym q) ∙ take-take (length u) (held r t) t (omega arith) ∙ ap (λ (x : ℕ). take x t) m)
 
 falls-fails : (r : Rules) (t : List ℕ) (c : ℕ) → grows r t c ≡ false → 0 < held r t → falls r t c ≡ suc (falls r (shorter r t) c)
 unfolding falls fallsFrom
@@ -78,7 +79,7 @@ falls-fails r t c e h = go (longest r t) refl (length t) refl
     go v q zero d = absurd (omega (arith, held-le r t))
     go [] q (suc n) d = absurd (omega (arith, ap length q, length-longest r t))
     go (b ∷ u) q (suc n) d =
-        rw (rw q at (opens-longest r t c), e, next-shorter r t b u q)
+        rw (rw q at (longest-grows r t c), e, next-shorter r t b u q)
         (ap suc (enough r c n (length w) (longest r w)
         (omega (arith, length-longest r w, held-shorter r t h, held-le r t)) (omega (arith, length-longest r w, held-le r w))))
 

@@ -2,19 +2,18 @@
 -- row of a shorter text, from which the byte leads to the same standing with one fallback less. Assumes nothing.
 use mathlib.Core.Path.{_≡_, sym, _∙_}
 use mathlib.Core.Logic.{_≢_}
-use mathlib.Core.Bool.{true, _||_, or-true}
+use mathlib.Core.Bool.{true, or-true}
 use mathlib.Core.List.{List, [], _∷_}
 use Prim.Native.Nat.{ℕ, suc, _≤_, _<_}
 use native.Mathlib.Omega.{arith}
-use lib.Dec.{eqb}
 use lib.ListN.{length, getD}
 use borrow.Author.Tests.{eq-eqb, ne-eqb}
 use Rattle.rows.specs.Rows.{IsRow, Ascending}
 use Rattle.rows.proofs.Rows.{Congruence, row-same, root}
 use Rattle.meaning.specs.Rules.{Rules}
-use Rattle.meaning.specs.Standing.{Same, held, out, extends}
+use Rattle.meaning.specs.Standing.{Same, held, out}
 use Rattle.meaning.specs.Falls.{falls}
-use Rattle.meaning.specs.Tables.{noEntry, IsFall, Entry, EntryAt, columns, gotoAt, Five, Tables}
+use Rattle.meaning.specs.Tables.{noEntry, IsFall, goesOnAt, EntryAt, columns, gotoAt, Five, Tables}
 use Rattle.meaning.specs.Step.{Follows, goes, falls as back-to}
 use Rattle.meaning.proofs.Levels.{same-cons}
 use Rattle.meaning.proofs.Held.{same-held}
@@ -58,10 +57,10 @@ module _ {r : Rules} {ts : List (List ℕ)} {goto : ℕ → ℕ → ℕ} {fall :
       u : List ℕ
       u = getD ts s []
 
-      here : Entry r ts u c (goto s c) (eqb s 0 || extends r u c)
+      here : EntryAt r ts goto s c
       here = k .entry s c below byte
 
-      goes-on : (eqb s 0 || extends r u c) ≡ true → falls r t c ≡ 0 → Look r ts goto fall t s c
+      goes-on : goesOnAt r ts s c ≡ true → falls r t c ≡ 0 → Look r ts goto fall t s c
       goes-on q z = let y = here .on q in ahead (λ e. omega (arith, y .below, k .few)) (row-same C (same-cons c (x .same)) y) z
 
   -- what a row leads to, and by how many falls

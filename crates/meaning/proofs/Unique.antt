@@ -1,13 +1,12 @@
 -- Rules have one list of rows or more than n standings, and five buffers have one content. Assumes nothing.
 use mathlib.Core.Path.{_≡_, refl, sym, ap, subst, _∙_}
 use mathlib.Core.Logic.{_⊎_}
-use mathlib.Core.Bool.{Bool, true, false, _||_}
+use mathlib.Core.Bool.{Bool, true, false}
 use mathlib.Core.List.{List, []}
 use Prim.Native.Nat.{ℕ, _+_, _*_, _/_, _%_, _<_}
 use native.Mathlib.Nat.{mod-lt}
 use native.Mathlib.Omega.{arith}
 use native.Mathlib.Decide.{decLt}
-use lib.Dec.{eqb}
 use lib.ListN.{length, getD}
 use lib.Seq.{ext-getD}
 use Rattle.rows.specs.Rows.{Ascending, MoreThan, AtMost}
@@ -17,8 +16,8 @@ use Rattle.sets.specs.Table.{rowWords, rulesAt}
 use Rattle.sets.proofs.InWords.{Words}
 use Rattle.sets.proofs.Table.{same-table}
 use Rattle.meaning.specs.Rules.{Rules}
-use Rattle.meaning.specs.Standing.{Same, extends}
-use Rattle.meaning.specs.Tables.{Numbers, Entry, Gotos, Five, gotoAt, columns, ZeroFrom, Tables}
+use Rattle.meaning.specs.Standing.{Same}
+use Rattle.meaning.specs.Tables.{Numbers, Entry, goesOnAt, Gotos, Five, gotoAt, columns, ZeroFrom, Tables}
 use Rattle.meaning.proofs.Congruent.{congruence}
 use Rattle.meaning.proofs.Shorter.{fall-row}
 use Rattle.meaning.proofs.Tested.{same-decided}
@@ -30,7 +29,7 @@ rows-or-more r n = exists (congruence r) (same-decided r) n
 
 module _ {r : Rules} {ts : List (List ℕ)} (asc : Ascending (Same r) ts) where
   one-goto : {g g′ : ℕ → ℕ → ℕ} → Gotos r ts g → Gotos r ts g′ → (i c : ℕ) → i < length ts → c < 256 → g i c ≡ g′ i c
-  one-goto x y i c k byte = go (eqb i 0 || extends r (getD ts i []) c) (x .entry i c k byte) (y .entry i c k byte)
+  one-goto x y i c k byte = go (goesOnAt r ts i c) (x .entry i c k byte) (y .entry i c k byte)
     where
       go : (b : Bool) {e e′ : ℕ} → Entry r ts (getD ts i []) c e b → Entry r ts (getD ts i []) c e′ b → e ≡ e′
       go true a a′ = one-row (congruence r) asc (a .on refl) (a′ .on refl)

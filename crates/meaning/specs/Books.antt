@@ -1,12 +1,15 @@
--- The paper's books X and Y, with their rows and the numbers of their rows, written out. Assumes nothing.
+-- The paper's books X and Y, with their rows and the numbers of their rows, and a book Z in which a short rule ends with a longer one, written out; and
+-- the fallbacks and held lengths of the paper's texts. Assumes nothing.
+use mathlib.Core.Path.{_≡_}
 use mathlib.Core.Bool.{Bool, _&&_}
-use mathlib.Core.List.{List, [], _∷_}
+use mathlib.Core.List.{List, [], _∷_, reverse}
 use Prim.Native.Nat.{ℕ}
 use lib.Dec.{leb, eqb}
 use lib.ListN.{getD}
 use Rattle.rows.specs.Rows.{IsRows}
 use Rattle.meaning.specs.Rules.{Rules}
-use Rattle.meaning.specs.Standing.{Same}
+use Rattle.meaning.specs.Standing.{Same, held}
+use Rattle.meaning.specs.Falls.{fallsIn}
 use Rattle.meaning.specs.Tables.{Numbers}
 
 -- a book, the least texts of its rows, the latest byte first, and what the tables hold for each row
@@ -53,3 +56,24 @@ Y = record {
   live = 0 ∷ 7 ∷ 1 ∷ 1 ∷ 2 ∷ 6 ∷ 2 ∷ 2 ∷ 2 ∷ [];
   out = 0 ∷ 0 ∷ 0 ∷ 1 ∷ 0 ∷ 4 ∷ 0 ∷ 2 ∷ 2 ∷ [];
 }
+
+-- Z: rule 0 is `a`, `b`; rule 1 is `b`. Its rows: the empty text, a, b, ab
+abbrev pub Z : Written
+Z = record {
+  book = record { rules = (97 ∷ 98 ∷ []) ∷ (98 ∷ []) ∷ []; member = letters };
+  rows = [] ∷ (97 ∷ []) ∷ (98 ∷ []) ∷ (98 ∷ 97 ∷ []) ∷ [];
+  fall = 0 ∷ 0 ∷ 0 ∷ 2 ∷ [];
+  held = 0 ∷ 1 ∷ 1 ∷ 2 ∷ [];
+  live = 0 ∷ 1 ∷ 2 ∷ 1 ∷ [];
+  out = 0 ∷ 0 ∷ 2 ∷ 3 ∷ [];
+}
+
+-- a text in reading order makes f fallbacks and leaves h held
+abbrev pub Reads : Written → List ℕ → ℕ → ℕ → Type 0
+Reads w text f h = (fallsIn (w .book) (reverse text) ≡ f) × (held (w .book) (reverse text) ≡ h)
+
+-- aabab and aabbx over X, aab1 over Y
+pub record Texts : Type 0 where
+  pub aabab : Reads X (97 ∷ 97 ∷ 98 ∷ 97 ∷ 98 ∷ []) 1 2
+  pub aabbx : Reads X (97 ∷ 97 ∷ 98 ∷ 98 ∷ 120 ∷ []) 1 4
+  pub aab1 : Reads Y (97 ∷ 97 ∷ 98 ∷ 49 ∷ []) 2 2

@@ -39,9 +39,13 @@ pub record Entry (r : Rules) (ts : List (List ℕ)) (t : List ℕ) (c e : ℕ) (
   pub on : goes ≡ true → IsRow (Same r) ts (c ∷ t) e
   pub back : goes ≡ false → e ≡ noEntry
 
--- the entry at row i and byte c: row 0 always goes on
+-- whether the walk goes on from row i at the byte c: row 0 always does
+abbrev pub goesOnAt : Rules → List (List ℕ) → ℕ → ℕ → Bool
+goesOnAt r ts i c = eqb i 0 || extends r (getD ts i []) c
+
+-- the entry at row i and byte c
 abbrev pub EntryAt : Rules → List (List ℕ) → (ℕ → ℕ → ℕ) → ℕ → ℕ → Type 0
-EntryAt r ts goto i c = Entry r ts (getD ts i []) c (goto i c) (eqb i 0 || extends r (getD ts i []) c)
+EntryAt r ts goto i c = Entry r ts (getD ts i []) c (goto i c) (goesOnAt r ts i c)
 
 -- what goto holds
 pub record Gotos (r : Rules) (ts : List (List ℕ)) (goto : ℕ → ℕ → ℕ) : Type 0 where

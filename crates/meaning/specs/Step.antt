@@ -1,4 +1,4 @@
--- What a builder computes at one byte of one row. Assumes nothing.
+-- What a builder computes at one byte of one row, and where a byte leads from a row by falls. Assumes nothing.
 use mathlib.Core.Path.{_≡_}
 use mathlib.Core.Logic.{_≢_}
 use mathlib.Core.Bool.{Bool, _&&_, _||_}

@@ -5,13 +5,14 @@ use mathlib.Core.Logic.{⊎-elim}
 use mathlib.Core.Bool.{Bool, true, false, cond, _&&_, _||_, true≢false, or-false, and-false, and-true}
 use Prim.Native.Nat.{ℕ, zero, suc, _+_, _*_, _/_, _%_, _^_, _≤_, _<_, suc-le-suc}
 use native.Mathlib.Nat.{div-one, div-eq-of-lt, div-add-mod', mod-lt, zero-lt-suc, pow-suc, mul-mod-left, mul-div-cancel, le-of-suc-le-suc, eq-or-lt-of-le, add-zero}
+use native.Mathlib.Decide.{decLt}
 use native.Mathlib.Numerals.{add-one, one-add}
 use native.Mathlib.Omega.{arith}
-use lib.Dec.{eqb, eqb·zero-suc, eqb·suc-zero, eqb·suc-suc}
+use lib.Dec.{eqb, ltb, eqb·zero-suc, eqb·suc-zero, eqb·suc-suc}
 use lib.Arith.{lt-one}
 use lib.Pow.{pow-pos, pow-lt, pow-mono, shr-shr, shr-lt}
 use lib.Bits.{bitAnd, bitOr, and-step, and-mask, or-shr, or-mod, or-lt, or-disjoint}
-use borrow.Author.Tests.{eq-eqb, ne-eqb}
+use borrow.Author.Tests.{eq-eqb, ne-eqb, lt-ltb, le-ltb}
 use Rattle.sets.specs.Sets.{has, setWhere, adding}
 
 -- ---- a set by its lowest bit and the others
@@ -133,6 +134,9 @@ has-in (suc n) k p h =
     step true = has-plus (setWhere n p) n k (has-out n n p (omega arith))
     step false = rw add-zero (sym (or-false (has (setWhere n p) k)))
 
+pub has-setWhere : (n k : ℕ) (p : ℕ → Bool) → has (setWhere n p) k ≡ ltb k n && p k
+has-setWhere n k p = elim (decLt k n) [ yes h ↦ rw (lt-ltb k n h) (has-in n k p h) | no h ↦ let l : n ≤ k = omega arith in rw (le-ltb k n l) (has-out n k p l) ]
+
 -- a number of n bits is the set of a test that its bits agree with
 setWhere-is : (n s : ℕ) (p : ℕ → Bool) → s < 2 ^ n → ((k : ℕ) → k < n → has s k ≡ p k) → s ≡ setWhere n p
 setWhere-is n s p h e = ext n s (setWhere n p) h (setWhere-lt n p) (λ k l. e k l ∙ sym (has-in n k p l))
@@ -147,6 +151,15 @@ pub setWhere-or : (n : ℕ) (p q : ℕ → Bool) → bitOr (setWhere n p) (setWh
 setWhere-or n p q =
     setWhere-is n _ (λ k. p k || q k) (or-lt n _ _ (setWhere-lt n p) (setWhere-lt n q))
     (λ k h. has-or (setWhere n p) (setWhere n q) k ∙ ap₂ _||_ (has-in n k p h) (has-in n k q h))
+
+-- one more number is in the set where it has p, and else the set is as it was
+pub setWhere-with : (n : ℕ) (p : ℕ → Bool) → p n ≡ true → bitOr (setWhere n p) (2 ^ n) ≡ setWhere (suc n) p
+unfolding setWhere
+setWhere-with n p e = rw e (or-one (setWhere n p) n (has-out n n p (omega arith)))
+
+pub setWhere-skip : (n : ℕ) (p : ℕ → Bool) → p n ≡ false → setWhere n p ≡ setWhere (suc n) p
+unfolding setWhere
+setWhere-skip n p e = rw e (sym (add-zero (setWhere n p)))
 
 -- ---- a set with one more
 

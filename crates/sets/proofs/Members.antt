@@ -12,7 +12,7 @@ use lib.Dec.{eqb}
 use lib.Arith.{lt-one}
 use lib.Bits.{bitAnd, and-step, and-self}
 use lib.Count.{ones, ones-step, under, trailingZeros, trailing-of-zero}
-use lib.ListN.{length, getD, take, drop, length-map}
+use lib.ListN.{length, getD, take, drop, set, length-map}
 use lib.Seq.{sets, sets-eq}
 use borrow.Author.Tests.{eq-eqb, ne-eqb}
 use Rattle.sets.specs.Sets.{has, keep, those, members, reports}
@@ -188,3 +188,7 @@ pub reports-stored : (e : ℕ) (ks l : List ℕ) (i j : ℕ) → j ≡ i + 2 * l
 reports-stored e ks l i j q h =
     let n : j ≡ i + length (reports e ks) = omega (arith, reports-length e ks) in
     rw n (sets-eq (reports e ks) l i (omega arith))
+
+pub sets-append : (l us vs : List ℕ) (i : ℕ) → sets l i (us ++ vs) ≡ sets (sets l i us) (i + length us) vs
+sets-append l [] vs i = rw add-zero
+sets-append l (u ∷ us) vs i = rw (add-suc, ← suc-add) (sets-append (set l i u) us vs (suc i))

@@ -1,15 +1,15 @@
--- A table of sets is known by the sets of its rows, for any number of words a row. Assumes nothing.
-use mathlib.Core.Path.{_≡_, sym, ap, _∙_}
-use mathlib.Core.List.{List}
+-- A table of sets is known by the sets of its rows, for any number of words a row; and what one word a row comes to. Assumes nothing.
+use mathlib.Core.Path.{_≡_, refl, sym, ap, _∙_}
+use mathlib.Core.List.{List, [], _∷_}
 use Prim.Native.Nat.{ℕ, zero, suc, _+_, _*_, _/_, _%_, _≤_, _<_}
-use native.Mathlib.Nat.{mod-lt, div-add-mod', div-lt-iff-lt-mul, mul-comm, zero-mul, zero-lt-suc}
+use native.Mathlib.Nat.{mod-lt, div-add-mod', div-lt-iff-lt-mul, mul-comm, zero-mul, one-mul, zero-add, zero-lt-suc}
 use native.Mathlib.Omega.{arith}
 use native.Mathlib.Decide.{decLt}
 use lib.Pow.{pow-pos}
 use lib.ListN.{length, getD, take, drop, length-take, List·getD-eq-default}
 use lib.Seq.{getD-take, getD-drop}
 use Rattle.sets.specs.Sets.{has, setOf}
-use Rattle.sets.specs.Table.{rowSet}
+use Rattle.sets.specs.Table.{rowSet, rulesAt}
 use Rattle.sets.proofs.Laws.{ext}
 use Rattle.sets.proofs.InWords.{Words, has-at}
 
@@ -40,3 +40,15 @@ same-table (suc v) n xs ys f g e j h =
     let q : w * (j / w) + j % w ≡ j = rw (mul-comm w (j / w)) (div-add-mod' j w) in
     let r = same-words _ _ (words-row w xs (j / w) f) (words-row w ys (j / w) g) (e (j / w) i) (j % w) in
     rw (getD-take w (drop (w * (j / w)) xs) (j % w) 0 k, getD-take w (drop (w * (j / w)) ys) (j % w) 0 k, getD-drop (w * (j / w)) xs, getD-drop (w * (j / w)) ys, q) at r
+
+-- ---- a word a row: the row's set is its word
+
+pub rules-word : (xs : List ℕ) (i : ℕ) → rulesAt xs i ≡ getD xs i 0
+unfolding rulesAt rowSet setOf
+rules-word xs i = rw (one-mul i) (go xs i)
+  where
+    go : (xs : List ℕ) (i : ℕ) → setOf (take 1 (drop i xs)) ≡ getD xs i 0
+    go [] zero = refl
+    go [] (suc i) = refl
+    go (x ∷ xs) zero = zero-add x
+    go (x ∷ xs) (suc i) = go xs i

@@ -1,0 +1,8 @@
+-- The definitions of the builder: Lent and Promise are what its promise says, Exact and Cases what is proved of it; Sets and Course describe the code.
+-- Assumes nothing.
+pub mod Lent
+pub mod Promise
+pub mod Exact
+pub mod Cases
+pub mod Sets
+pub mod Course

@@ -1,0 +1,521 @@
+// The builder of tables: from the bytes of a rule book to the five tables, one row of 256 entries at a time.
+
+use book::Answer;
+use book::Book;
+use book::Pictures;
+use book::Refusal;
+ghost use mathlib.Core.Path.{_≡_};
+ghost use mathlib.Core.List.{List};
+ghost use Prim.Native.Nat.{ℕ, _+_, _*_, _<_, _≤_, min};
+ghost use lib.ListN.{length, getD};
+ghost use Rattle.sets.specs.Table.{rowWords};
+ghost use Rattle.meaning.specs.Step.{nextLive};
+ghost use Rattle.book.specs.Limits.{mostRows};
+ghost use Rattle.book.specs.Meant.{rulesIn, rulesHeld};
+ghost use Rattle.build.specs.Lent.{lentOf};
+ghost use Rattle.build.specs.Sets.{Within, Joins, endedIn};
+ghost use Rattle.build.specs.Course.{Leads, Found, Rising, Chains, Descends, Room, InHand, RowOf, Place, RowFilled, Sane, RowBuilt, AllFilled, Makes, zeroOthers, others};
+ghost use Rattle.build.specs.Promise.{numberOf, valueOf, five, zeros, Promise};
+ghost use Rattle.build.specs.declared.Placed.the-variants.{Entry};
+ghost use Rattle.build.specs.declared.Filled.the-variants.{Rows as Whole};
+
+// The entry that says: fall back.
+const NO_ENTRY: u16 = 65535;
+
+// What one byte of a row comes to: its goto entry and the row count after it, or no room.
+enum Placed {
+    Entry(u16, usize),
+    Full,
+}
+
+// What filling rows comes to: the row count after it, or no room.
+enum Filled {
+    Rows(usize),
+    Full,
+}
+
+// The answer of a build: the rows used, the rows lent where more are needed, or why the book is refused.
+pub enum Built {
+    Rows(usize),
+    NoRoom(usize),
+    Refused(Refusal),
+}
+
+impl Built {
+    // The paper's number of an answer, and its value.
+    pub fn number(self) -> usize
+        ensures { λ r. ⌜ r ≡ numberOf self ⌝ }
+    {
+        match self {
+            Built::Rows(_) => 0,
+            Built::NoRoom(_) => 10,
+            Built::Refused(why) => Answer::Refused(why).number(),
+        }
+    }
+
+    pub fn value(self) -> usize
+        ensures { λ r. ⌜ r ≡ valueOf self ⌝ }
+    {
+        match self {
+            Built::Rows(n) => n,
+            Built::NoRoom(n) => n,
+            Built::Refused(why) => Answer::Refused(why).value(),
+        }
+    }
+}
+
+// Whether the byte fits the symbol and rule k is of the set (any is where nothing is held).
+fn joins(pictures: &Pictures, live: u64, held: usize, k: u32, symbol: u16, byte: u8) -> bool
+    ensures { λ r. ⌜ Joins (now (pictures .entry)) live held k symbol byte r ⌝ }
+{
+    if held != 0 {
+        if !sets::has(live, k) {
+            return false;
+        }
+    }
+    book::fits(pictures, byte, symbol)
+}
+
+// The rules that go on with the byte, from a row with this held length and live set.
+fn extended(
+    symbols: &[u16; Book::PLACES],
+    lengths: &[u8; Book::RULES],
+    pictures: &Pictures,
+    rules: usize,
+    held: usize,
+    live: u64,
+    byte: u8,
+) -> u64
+    requires { ⌜ Within (now lengths) rules ⌝ }
+    ensures { λ r. ⌜ r ≡ nextLive (rulesIn (now (symbols .entry)) (now (lengths .entry)) (now (pictures .entry)) rules) held live byte ⌝ }
+{
+    let mut set: u64 = 0;
+    let mut k: usize = 0;
+    while k < rules {
+        if held < lengths[k] as usize {
+            let symbol = symbols[Book::SYMBOLS * k + held];
+            if joins(pictures, live, held, k as u32, symbol, byte) {
+                set = sets::with(set, k as u32);
+            }
+        }
+        k += 1;
+    }
+    set
+}
+
+// The rules of the set that have just `held` symbols.
+fn ended(lengths: &[u8; Book::RULES], rules: usize, held: usize, set: u64) -> u64
+    requires { ⌜ Within (now lengths) rules ⌝ }
+    ensures { λ r. ⌜ r ≡ endedIn (now (lengths .entry)) rules held set ⌝ }
+{
+    let mut some: u64 = 0;
+    let mut k: usize = 0;
+    while k < rules {
+        if lengths[k] as usize == held {
+            if sets::has(set, k as u32) {
+                some = sets::with(some, k as u32);
+            }
+        }
+        k += 1;
+    }
+    some
+}
+
+// A row of the n with these three numbers, or n. The rows that fall to f are a chain, newest first; the held lengths ascend, so it ends where one is below h.
+fn find_row(
+    held: &[u8],
+    live: &[u64],
+    first: &[u16; Book::ROWS],
+    older: &[u16; Book::ROWS],
+    n: usize,
+    h: u8,
+    l: u64,
+    f: u16,
+) -> usize
+    requires { ⌜ (n ≤ length (now held)) × (rowWords * n ≤ length (now live)) × (n ≤ mostRows) × (f < n) ⌝ ∗ ⌜ Rising (now held) n h ⌝ ∗ ⌜ ((fall : List ℕ) × Chains (now first) (now older) fall n) ⌝ }
+    ensures { λ r. ⌜ ((fall : List ℕ) → Chains (now (first .entry)) (now (older .entry)) fall n → Found (now (held .entry)) (now (live .entry)) fall n h l f r) ⌝ }
+{
+    let mut i = first[f as usize] as usize;
+    while i != 0 {
+        if held[i] < h {
+            return n;
+        }
+        if live[i] == l {
+            return i;
+        }
+        i = older[i] as usize;
+    }
+    n
+}
+
+// The row that a byte leads to from `row`, by falls.
+fn follow(goto: &[u16], fall: &[u16], row: u16, byte: usize) -> u16
+    requires { ⌜ Descends (now goto) (now fall) row ⌝ ∗ ⌜ byte < 256 ⌝ }
+    ensures { λ r. ⌜ Leads (now (goto .entry)) (now (fall .entry)) byte row r ⌝ }
+{
+    let mut r = row as usize;
+    while goto[256 * r + byte] == NO_ENTRY {
+        r = fall[r] as usize;
+    }
+    goto[256 * r + byte]
+}
+
+// The complete row of `row`: for each byte the row that it leads to.
+fn via_row(goto: &[u16], fall: &[u16], row: u16) -> [u16; 256]
+    requires { ⌜ Descends (now goto) (now fall) row ⌝ }
+    ensures { λ r. ⌜ ((c : ℕ) → c < 256 → Leads (now (goto .entry)) (now (fall .entry)) c row (getD r c 0)) ⌝ }
+{
+    let mut via = [0u16; 256];
+    let mut c = 0;
+    while c < 256 {
+        via[c] = follow(goto, fall, row, c);
+        c += 1;
+    }
+    via
+}
+
+// The row with these three numbers: one there is, or a new one at n.
+fn row_of(
+    lengths: &[u8; Book::RULES],
+    rules: usize,
+    fall: &mut [u16],
+    held: &mut [u8],
+    live: &mut [u64],
+    out: &mut [u64],
+    first: &mut [u16; Book::ROWS],
+    older: &mut [u16; Book::ROWS],
+    lent: usize,
+    n: usize,
+    h: u8,
+    l: u64,
+    f: u16,
+) -> Placed
+    requires { ⌜ Within (now lengths) rules ⌝ ∗ ⌜ Room lent n (others (now fall) (now held) (now live) (now out)) ⌝ ∗ ⌜ f < n ⌝ ∗ ⌜ Rising (now held) n h ⌝ ∗ ⌜ Chains (now first) (now older) (now fall) n ⌝ }
+    ensures { λ r. ⌜ RowOf (endedIn (now (lengths .entry)) rules h l) lent n h l f (others (now (fall .entry)) (now (held .entry)) (now (live .entry)) (now (out .entry))) (others (now (fall .exit)) (now (held .exit)) (now (live .exit)) (now (out .exit))) r ⌝ ∗ ⌜ ((e m : ℕ) → r ≡ Entry e m → Chains (now (first .exit)) (now (older .exit)) (now (fall .exit)) m) ⌝ }
+{
+    let i = find_row(held, live, first, older, n, h, l, f);
+    if i < n {
+        return Placed::Entry(i as u16, n);
+    }
+    if lent <= n {
+        return Placed::Full;
+    }
+    let below = out[f as usize];
+    fall[n] = f;
+    held[n] = h;
+    live[n] = l;
+    out[n] = sets::union(ended(lengths, rules, h as usize, l), below);
+    older[n] = first[f as usize];
+    first[f as usize] = n as u16;
+    Placed::Entry(n as u16, n + 1)
+}
+
+// The entry of row s for one byte, where `via` is the row that the fall of s leads to on it.
+fn place(
+    symbols: &[u16; Book::PLACES],
+    lengths: &[u8; Book::RULES],
+    pictures: &Pictures,
+    rules: usize,
+    fall: &mut [u16],
+    held: &mut [u8],
+    live: &mut [u64],
+    out: &mut [u64],
+    first: &mut [u16; Book::ROWS],
+    older: &mut [u16; Book::ROWS],
+    lent: usize,
+    n: usize,
+    s: usize,
+    byte: u8,
+    via: u16,
+) -> Placed
+    requires { ⌜ Within (now lengths) rules ⌝ ∗ ⌜ InHand lent n s (others (now fall) (now held) (now live) (now out)) ⌝ ∗ ⌜ via < n ⌝ ∗ ⌜ Chains (now first) (now older) (now fall) n ⌝ }
+    ensures { λ r. ⌜ Place (rulesIn (now (symbols .entry)) (now (lengths .entry)) (now (pictures .entry)) rules) lent s byte via n (others (now (fall .entry)) (now (held .entry)) (now (live .entry)) (now (out .entry))) (others (now (fall .exit)) (now (held .exit)) (now (live .exit)) (now (out .exit))) r ⌝ ∗ ⌜ ((e m : ℕ) → r ≡ Entry e m → Chains (now (first .exit)) (now (older .exit)) (now (fall .exit)) m) ⌝ }
+{
+    let h = held[s];
+    let l = extended(symbols, lengths, pictures, rules, h as usize, live[s], byte);
+    if l == 0 {
+        if s == 0 {
+            return Placed::Entry(0, n);
+        }
+        return Placed::Entry(NO_ENTRY, n);
+    }
+    row_of(
+        lengths,
+        rules,
+        fall,
+        held,
+        live,
+        out,
+        first,
+        older,
+        lent,
+        n,
+        h + 1,
+        l,
+        via,
+    )
+}
+
+// The 256 entries of row s.
+fn fill_row(
+    symbols: &[u16; Book::PLACES],
+    lengths: &[u8; Book::RULES],
+    pictures: &Pictures,
+    rules: usize,
+    row: &mut [u16],
+    fall: &mut [u16],
+    held: &mut [u8],
+    live: &mut [u64],
+    out: &mut [u64],
+    first: &mut [u16; Book::ROWS],
+    older: &mut [u16; Book::ROWS],
+    lent: usize,
+    n: usize,
+    s: usize,
+    via: [u16; 256],
+) -> Filled
+    requires { ⌜ Within (now lengths) rules ⌝ ∗ ⌜ InHand lent n s (others (now fall) (now held) (now live) (now out)) ⌝ ∗ ⌜ length (now row) ≡ 256 ⌝ ∗ ⌜ ((c : ℕ) → c < 256 → getD via c 0 < n) ⌝ ∗ ⌜ Chains (now first) (now older) (now fall) n ⌝ }
+    ensures { λ r. ⌜ RowFilled (rulesIn (now (symbols .entry)) (now (lengths .entry)) (now (pictures .entry)) rules) lent s via (now (row .entry)) n (others (now (fall .entry)) (now (held .entry)) (now (live .entry)) (now (out .entry))) (now (row .exit)) (others (now (fall .exit)) (now (held .exit)) (now (live .exit)) (now (out .exit))) r ⌝ ∗ ⌜ ((m : ℕ) → r ≡ Whole m → Chains (now (first .exit)) (now (older .exit)) (now (fall .exit)) m) ⌝ }
+{
+    let mut rows = n;
+    let mut c: usize = 0;
+    while c < 256 {
+        let placed = place(
+            symbols,
+            lengths,
+            pictures,
+            rules,
+            fall,
+            held,
+            live,
+            out,
+            first,
+            older,
+            lent,
+            rows,
+            s,
+            c as u8,
+            via[c],
+        );
+        match placed {
+            Placed::Entry(e, m) => {
+                row[c] = e;
+                rows = m;
+            }
+            Placed::Full => {
+                return Filled::Full;
+            }
+        }
+        c += 1;
+    }
+    Filled::Rows(rows)
+}
+
+fn zero16(numbers: &mut [u16])
+    ensures { λ _. ⌜ now (numbers .exit) ≡ zeros (now (numbers .entry)) ⌝ }
+{
+    let mut i = 0;
+    while i < numbers.len() {
+        numbers[i] = 0;
+        i += 1;
+    }
+}
+
+fn zero8(bytes: &mut [u8])
+    ensures { λ _. ⌜ now (bytes .exit) ≡ zeros (now (bytes .entry)) ⌝ }
+{
+    let mut i = 0;
+    while i < bytes.len() {
+        bytes[i] = 0;
+        i += 1;
+    }
+}
+
+fn zero64(words: &mut [u64])
+    ensures { λ _. ⌜ now (words .exit) ≡ zeros (now (words .entry)) ⌝ }
+{
+    let mut i = 0;
+    while i < words.len() {
+        words[i] = 0;
+        i += 1;
+    }
+}
+
+// Every entry of the five tables 0.
+fn zero_all(goto: &mut [u16], fall: &mut [u16], held: &mut [u8], live: &mut [u64], out: &mut [u64])
+    ensures { λ _. ⌜ now (goto .exit) ≡ zeros (now (goto .entry)) ⌝
+        ∗ ⌜ others (now (fall .exit)) (now (held .exit)) (now (live .exit)) (now (out .exit)) ≡ zeroOthers (others (now (fall .entry)) (now (held .entry)) (now (live .entry)) (now (out .entry))) ⌝ }
+{
+    zero16(goto);
+    zero16(fall);
+    zero8(held);
+    zero64(live);
+    zero64(out);
+}
+
+fn least(a: usize, b: usize) -> usize
+    ensures { λ r. ⌜ r ≡ min a b ⌝ }
+{
+    if a < b { a } else { b }
+}
+
+// The rows that tables of these lengths lend.
+pub fn rows_lent(goto: usize, fall: usize, held: usize, live: usize, out: usize) -> usize
+    ensures { λ r. ⌜ r ≡ lentOf goto fall held live out ⌝ }
+{
+    let sets = least(live, least(out, Book::ROWS));
+    least(goto / 256, least(fall, least(held, sets)))
+}
+
+// Row s, whole: its part of goto is lent to the row filler.
+fn build_row(
+    symbols: &[u16; Book::PLACES],
+    lengths: &[u8; Book::RULES],
+    pictures: &Pictures,
+    rules: usize,
+    goto: &mut [u16],
+    fall: &mut [u16],
+    held: &mut [u8],
+    live: &mut [u64],
+    out: &mut [u64],
+    first: &mut [u16; Book::ROWS],
+    older: &mut [u16; Book::ROWS],
+    lent: usize,
+    n: usize,
+    s: usize,
+) -> Filled
+    requires { ⌜ Within (now lengths) rules ⌝ ∗ ⌜ Sane lent n (now goto) (others (now fall) (now held) (now live) (now out)) ⌝ ∗ ⌜ s < n ⌝ ∗ ⌜ Rising (now held) n (getD (now held) s 0 + 1) ⌝ ∗ ⌜ Chains (now first) (now older) (now fall) n ⌝ }
+    ensures { λ r. ⌜ RowBuilt (rulesIn (now (symbols .entry)) (now (lengths .entry)) (now (pictures .entry)) rules) lent n s (now (goto .entry)) (others (now (fall .entry)) (now (held .entry)) (now (live .entry)) (now (out .entry))) (now (goto .exit)) (others (now (fall .exit)) (now (held .exit)) (now (live .exit)) (now (out .exit))) r ⌝ ∗ ⌜ ((m : ℕ) → r ≡ Whole m → Chains (now (first .exit)) (now (older .exit)) (now (fall .exit)) m) ⌝ }
+{
+    let below = fall[s];
+    let via = via_row(goto, fall, below);
+    let start = 256 * s;
+    let end = start + 256;
+    fill_row(
+        symbols,
+        lengths,
+        pictures,
+        rules,
+        &mut goto[start..end],
+        fall,
+        held,
+        live,
+        out,
+        first,
+        older,
+        lent,
+        n,
+        s,
+        via,
+    )
+}
+
+// Every row, in order, until none is left or there is no room.
+fn fill_all(
+    symbols: &[u16; Book::PLACES],
+    lengths: &[u8; Book::RULES],
+    pictures: &Pictures,
+    rules: usize,
+    goto: &mut [u16],
+    fall: &mut [u16],
+    held: &mut [u8],
+    live: &mut [u64],
+    out: &mut [u64],
+    lent: usize,
+) -> Filled
+    requires { ⌜ Within (now lengths) rules ⌝ ∗ ⌜ Sane lent 1 (now goto) (others (now fall) (now held) (now live) (now out)) ⌝ }
+    ensures { λ r. ⌜ AllFilled (rulesIn (now (symbols .entry)) (now (lengths .entry)) (now (pictures .entry)) rules) lent (now (goto .entry)) (others (now (fall .entry)) (now (held .entry)) (now (live .entry)) (now (out .entry))) (now (goto .exit)) (others (now (fall .exit)) (now (held .exit)) (now (live .exit)) (now (out .exit))) r ⌝ }
+{
+    let mut first = [0u16; Book::ROWS];
+    let mut older = [0u16; Book::ROWS];
+    let mut n: usize = 1;
+    let mut s: usize = 0;
+    while s < n {
+        let filled = build_row(
+            symbols,
+            lengths,
+            pictures,
+            rules,
+            goto,
+            fall,
+            held,
+            live,
+            out,
+            &mut first,
+            &mut older,
+            lent,
+            n,
+            s,
+        );
+        match filled {
+            Filled::Rows(m) => {
+                n = m;
+            }
+            Filled::Full => {
+                return Filled::Full;
+            }
+        }
+        s += 1;
+    }
+    Filled::Rows(n)
+}
+
+// The tables of a book that was read, from nothing; every entry is 0 where there is no room for them.
+fn make(
+    book: Book,
+    goto: &mut [u16],
+    fall: &mut [u16],
+    held: &mut [u8],
+    live: &mut [u64],
+    out: &mut [u64],
+) -> Built
+    requires { ⌜ Within (book .lengths) (book .rules) ⌝ }
+    ensures { λ r. ⌜ Makes (rulesHeld book) (now (goto .entry)) (others (now (fall .entry)) (now (held .entry)) (now (live .entry)) (now (out .entry))) (now (goto .exit)) (others (now (fall .exit)) (now (held .exit)) (now (live .exit)) (now (out .exit))) r ⌝ }
+{
+    let rows = rows_lent(goto.len(), fall.len(), held.len(), live.len(), out.len());
+    zero_all(goto, fall, held, live, out);
+    if rows == 0 {
+        return Built::NoRoom(0);
+    }
+    let symbols = book.symbols;
+    let lengths = book.lengths;
+    let pictures = book.picture;
+    let filled = fill_all(
+        &symbols,
+        &lengths,
+        &pictures,
+        book.rules,
+        goto,
+        fall,
+        held,
+        live,
+        out,
+        rows,
+    );
+    match filled {
+        Filled::Rows(n) => Built::Rows(n),
+        Filled::Full => {
+            zero_all(goto, fall, held, live, out);
+            Built::NoRoom(rows)
+        }
+    }
+}
+
+// Builds the tables of the book that the bytes hold.
+pub fn build(
+    bytes: &[u8],
+    goto: &mut [u16],
+    fall: &mut [u16],
+    held: &mut [u8],
+    live: &mut [u64],
+    out: &mut [u64],
+) -> Built
+    ensures { λ r. ⌜ Promise (now (bytes .entry)) (five (now (goto .entry)) (now (fall .entry)) (now (held .entry)) (now (live .entry)) (now (out .entry))) (five (now (goto .exit)) (now (fall .exit)) (now (held .exit)) (now (live .exit)) (now (out .exit))) r ⌝ }
+{
+    let read = book::read(bytes);
+    let answer = read.answer;
+    match answer {
+        Answer::Accepted => make(read.book, goto, fall, held, live, out),
+        Answer::Refused(why) => Built::Refused(why),
+    }
+}

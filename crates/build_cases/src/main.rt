@@ -1,0 +1,303 @@
+// Builds books and writes, a line each: the label, the number and the value of the answer, and how many entries of goto, fall, held, live
+// and out are not 0 then; of an accepted book also its rows of held, fall, live and out. Before each build every entry lent is 1.
+ghost use Prim.Native.Nat.{_≤_};
+ghost use lib.ListN.{length};
+
+fn main() {
+    book_a(b"\x52\x00\x02\x00a");
+    book_x(b"\x50\x00\x1aabcdefghijklmnopqrstuvwxyz\x52\x00\x08\x00a\x01\x00\x00b\x01\x00");
+    nine(
+        b"book y, 9 rows lent",
+        b"\x50\x00\x1aabcdefghijklmnopqrstuvwxyz\x52\x00\x04\x01\x00\x001\x52\x00\x06\x00a\x01\x00\x00c\x52\x00\x04\x00a\x00b",
+    );
+    refused();
+}
+
+// The rule `a`: two rows.
+fn book_a(bytes: &[u8]) {
+    nine(b"rule a, 9 rows lent", bytes);
+    two(b"rule a, 2 rows lent", bytes);
+    one(b"rule a, 1 row lent", bytes);
+    none(b"rule a, no row lent", bytes);
+}
+
+// Book x: nine rows.
+fn book_x(bytes: &[u8]) {
+    ten(b"book x, 10 rows lent", bytes);
+    nine(b"book x, 9 rows lent", bytes);
+    eight(b"book x, 8 rows lent", bytes);
+    uneven(b"book x, 9 rows lent but 8 of out", bytes);
+}
+
+// Books that the reader refuses.
+fn refused() {
+    one(b"empty book", b"");
+    one(b"cut header", b"\x52\x00");
+    one(b"other tag", b"\x52\x00\x02\x00a\x51\x00\x00");
+    one(b"empty picture", b"\x50\x00\x00");
+    one(b"shared byte", b"\x50\x00\x01a\x50\x00\x01a");
+    one(b"kind 2", b"\x52\x00\x02\x02a");
+}
+
+// ---- rows lent
+
+fn ten(label: &[u8], bytes: &[u8]) {
+    let mut goto = [1u16; 2560];
+    let mut fall = [1u16; 10];
+    let mut held = [1u8; 10];
+    let mut live = [1u64; 10];
+    let mut out = [1u64; 10];
+    show(
+        label,
+        bytes,
+        &mut goto,
+        &mut fall,
+        &mut held,
+        &mut live,
+        &mut out,
+    );
+}
+
+fn nine(label: &[u8], bytes: &[u8]) {
+    let mut goto = [1u16; 2304];
+    let mut fall = [1u16; 9];
+    let mut held = [1u8; 9];
+    let mut live = [1u64; 9];
+    let mut out = [1u64; 9];
+    show(
+        label,
+        bytes,
+        &mut goto,
+        &mut fall,
+        &mut held,
+        &mut live,
+        &mut out,
+    );
+}
+
+// goto has entries for one row less than nine, and one more.
+fn eight(label: &[u8], bytes: &[u8]) {
+    let mut goto = [1u16; 2303];
+    let mut fall = [1u16; 9];
+    let mut held = [1u8; 9];
+    let mut live = [1u64; 9];
+    let mut out = [1u64; 9];
+    show(
+        label,
+        bytes,
+        &mut goto,
+        &mut fall,
+        &mut held,
+        &mut live,
+        &mut out,
+    );
+}
+
+fn uneven(label: &[u8], bytes: &[u8]) {
+    let mut goto = [1u16; 2304];
+    let mut fall = [1u16; 9];
+    let mut held = [1u8; 9];
+    let mut live = [1u64; 9];
+    let mut out = [1u64; 8];
+    show(
+        label,
+        bytes,
+        &mut goto,
+        &mut fall,
+        &mut held,
+        &mut live,
+        &mut out,
+    );
+}
+
+fn two(label: &[u8], bytes: &[u8]) {
+    let mut goto = [1u16; 512];
+    let mut fall = [1u16; 2];
+    let mut held = [1u8; 2];
+    let mut live = [1u64; 2];
+    let mut out = [1u64; 2];
+    show(
+        label,
+        bytes,
+        &mut goto,
+        &mut fall,
+        &mut held,
+        &mut live,
+        &mut out,
+    );
+}
+
+fn one(label: &[u8], bytes: &[u8]) {
+    let mut goto = [1u16; 256];
+    let mut fall = [1u16; 1];
+    let mut held = [1u8; 1];
+    let mut live = [1u64; 1];
+    let mut out = [1u64; 1];
+    show(
+        label,
+        bytes,
+        &mut goto,
+        &mut fall,
+        &mut held,
+        &mut live,
+        &mut out,
+    );
+}
+
+fn none(label: &[u8], bytes: &[u8]) {
+    let mut goto = [1u16; 255];
+    let mut fall = [1u16; 1];
+    let mut held = [1u8; 1];
+    let mut live = [1u64; 1];
+    let mut out = [1u64; 1];
+    show(
+        label,
+        bytes,
+        &mut goto,
+        &mut fall,
+        &mut held,
+        &mut live,
+        &mut out,
+    );
+}
+
+// ---- what is written
+
+fn show(
+    label: &[u8],
+    bytes: &[u8],
+    goto: &mut [u16],
+    fall: &mut [u16],
+    held: &mut [u8],
+    live: &mut [u64],
+    out: &mut [u64],
+) {
+    let built = build::build(bytes, goto, fall, held, live, out);
+    write(label, built, goto, fall, held, live, out);
+}
+
+fn write(
+    label: &[u8],
+    built: build::Built,
+    goto: &[u16],
+    fall: &[u16],
+    held: &[u8],
+    live: &[u64],
+    out: &[u64],
+) {
+    io::write_all(1, label);
+    io::write_all(1, b":");
+    print(built.number() as u64);
+    print(built.value() as u64);
+    io::write_all(1, b" |");
+    print(some16(goto) as u64);
+    print(some16(fall) as u64);
+    print(some8(held) as u64);
+    print(some64(live) as u64);
+    print(some64(out) as u64);
+    io::write_all(1, b"\n");
+    if built.number() == 0 {
+        let rows = built.value();
+        io::write_all(1, b"held");
+        row8(held, rows);
+        io::write_all(1, b"fall");
+        row16(fall, rows);
+        io::write_all(1, b"live");
+        row64(live, rows);
+        io::write_all(1, b"out");
+        row64(out, rows);
+    }
+}
+
+fn print(n: u64) {
+    io::write_all(1, b" ");
+    io::print_decimal(1, n);
+}
+
+fn small(x: u8) -> u64 {
+    x as u64
+}
+
+fn wide(x: u16) -> u64 {
+    x as u64
+}
+
+// How many entries are not 0.
+fn some8(a: &[u8]) -> usize
+    ensures { λ r. ⌜ r ≤ length (now (a .entry)) ⌝ }
+{
+    let mut some: usize = 0;
+    let mut i: usize = 0;
+    while i < a.len() {
+        if a[i] != 0 {
+            some += 1;
+        }
+        i += 1;
+    }
+    some
+}
+
+fn some16(a: &[u16]) -> usize
+    ensures { λ r. ⌜ r ≤ length (now (a .entry)) ⌝ }
+{
+    let mut some: usize = 0;
+    let mut i: usize = 0;
+    while i < a.len() {
+        if a[i] != 0 {
+            some += 1;
+        }
+        i += 1;
+    }
+    some
+}
+
+fn some64(a: &[u64]) -> usize
+    ensures { λ r. ⌜ r ≤ length (now (a .entry)) ⌝ }
+{
+    let mut some: usize = 0;
+    let mut i: usize = 0;
+    while i < a.len() {
+        if a[i] != 0 {
+            some += 1;
+        }
+        i += 1;
+    }
+    some
+}
+
+// The first n entries, in a line.
+fn row8(a: &[u8], n: usize) {
+    let mut i: usize = 0;
+    while i < a.len() {
+        if n <= i {
+            break;
+        }
+        print(small(a[i]));
+        i += 1;
+    }
+    io::write_all(1, b"\n");
+}
+
+fn row16(a: &[u16], n: usize) {
+    let mut i: usize = 0;
+    while i < a.len() {
+        if n <= i {
+            break;
+        }
+        print(wide(a[i]));
+        i += 1;
+    }
+    io::write_all(1, b"\n");
+}
+
+fn row64(a: &[u64], n: usize) {
+    let mut i: usize = 0;
+    while i < a.len() {
+        if n <= i {
+            break;
+        }
+        print(a[i]);
+        i += 1;
+    }
+    io::write_all(1, b"\n");
+}

@@ -1,0 +1,5 @@
+-- What the contracts of `walk` cite (Walk), and the theorems' statements (Demands, Whole, Cases). Assumes nothing.
+pub mod Walk
+pub mod Demands
+pub mod Whole
+pub mod Cases

@@ -1,0 +1,312 @@
+// The walk over tables: one look, one byte's move, and the walk over a text.
+
+use book::Book;
+ghost use mathlib.Core.Path.{_≡_};
+ghost use Prim.Native.Nat.{_+_, _*_, _≤_, _<_};
+ghost use lib.ListN.{length, getD};
+ghost use lib.Seq.{sets as stored};
+ghost use Rattle.sets.specs.Sets.{reports as pairs};
+ghost use Rattle.sets.specs.Table.{rowWords, rulesAt};
+ghost use Rattle.meaning.specs.Tables.{gotoAt};
+ghost use Rattle.book.specs.Limits.{mostRules};
+ghost use Rattle.build.specs.Promise.{five};
+ghost use Rattle.walk.specs.Walk.{Lent, Walkable, unwritten, moveFrom, isShort, moveOf, reported, runOf, reportsOf, written, hasRows, walkOf, bufferOf, numberOf, valueOf};
+
+// The entry that says: fall back.
+const NO_ENTRY: usize = 65535;
+
+// One byte's move: the row reached, the fallbacks on the way and the row's out; or an entry that no build writes.
+pub enum Moved {
+    Reached {
+        row: usize,
+        falls: usize,
+        rules: u64,
+    },
+    Lost,
+}
+
+// The run over a text: the reports and the fallbacks that it makes and its last row, or the byte at which it stops.
+enum Counted {
+    Read { made: usize, falls: u64, row: usize },
+    Stopped { at: usize },
+}
+
+// The walk's answer. `numberOf` and `valuesOf` of specs/ give each case's number and values.
+pub enum Walked {
+    Accepted {
+        reports: usize,
+        falls: u64,
+        held: u8,
+    },
+    TooLong,
+    BadRows {
+        rows: usize,
+    },
+    Damaged {
+        at: usize,
+    },
+    NoRoom {
+        needed: usize,
+    },
+}
+
+impl Walked {
+    // The paper's number of an answer.
+    pub fn number(self) -> usize
+        ensures { λ r. ⌜ r ≡ numberOf self ⌝ }
+    {
+        match self {
+            Walked::Accepted {
+                reports: _,
+                falls: _,
+                held: _,
+            } => 0,
+            Walked::TooLong => 11,
+            Walked::BadRows { rows: _ } => 12,
+            Walked::Damaged { at: _ } => 13,
+            Walked::NoRoom { needed: _ } => 14,
+        }
+    }
+
+    // Its value, or the first of the three of an accepted walk.
+    pub fn value(self) -> usize
+        ensures { λ r. ⌜ r ≡ valueOf self ⌝ }
+    {
+        match self {
+            Walked::Accepted {
+                reports,
+                falls: _,
+                held: _,
+            } => reports,
+            Walked::TooLong => Book::TEXT,
+            Walked::BadRows { rows } => rows,
+            Walked::Damaged { at } => at,
+            Walked::NoRoom { needed } => needed,
+        }
+    }
+}
+
+fn wide(x: u16) -> usize
+    ensures { λ r. ⌜ r ≡ x ⌝ }
+{
+    x as usize
+}
+
+// A row's entry on a byte, and the row that it falls to.
+fn entry_at(goto: &[u16], row: usize, byte: u8) -> usize
+    requires { ⌜ 256 * row + 256 ≤ length (now goto) ⌝ }
+    ensures { λ r. ⌜ r ≡ gotoAt (now (goto .entry)) row byte ⌝ }
+{
+    wide(goto[256 * row + byte as usize])
+}
+
+fn fall_at(fall: &[u16], row: usize) -> usize
+    requires { ⌜ row < length (now fall) ⌝ }
+    ensures { λ r. ⌜ r ≡ getD (now (fall .entry)) row 0 ⌝ }
+{
+    wide(fall[row])
+}
+
+// Whether no build writes such an entry. No row is below row 0, so one test serves 65535 in row 0 and a fall that is not below its own row.
+fn is_unwritten(n: usize, row: usize, entry: usize, to: usize) -> bool
+    ensures { λ r. ⌜ r ≡ unwritten n row entry to ⌝ }
+{
+    if entry == NO_ENTRY {
+        return row <= to;
+    }
+    n <= entry
+}
+
+// The rules that a row reports, and how many they are.
+fn rules(out: &[u64], row: usize) -> u64
+    requires { ⌜ rowWords * row < length (now out) ⌝ }
+    ensures { λ r. ⌜ r ≡ rulesAt (now (out .entry)) row ⌝ }
+{
+    out[row]
+}
+
+fn many(out: &[u64], row: usize) -> usize
+    requires { ⌜ rowWords * row < length (now out) ⌝ }
+    ensures { λ r. ⌜ (r ≡ length (reported (now (out .entry)) row)) × (r ≤ mostRules) ⌝ }
+{
+    sets::size(out[row]) as usize
+}
+
+// Looks until one is no fall.
+fn move_from(goto: &[u16], fall: &[u16], out: &[u64], n: usize, from: usize, byte: u8) -> Moved
+    requires { ⌜ Lent (now goto) (now fall) (now out) n × (from < n) ⌝ }
+    ensures { λ r. ⌜ r ≡ moveFrom (now (goto .entry)) (now (fall .entry)) (now (out .entry)) n from byte 0 ⌝ }
+{
+    let mut row = from;
+    let mut falls = 0;
+    loop {
+        let entry = entry_at(goto, row, byte);
+        if entry < n {
+            return Moved::Reached {
+                row: entry,
+                falls,
+                rules: rules(out, entry),
+            };
+        }
+        let to = fall_at(fall, row);
+        if is_unwritten(n, row, entry, to) {
+            return Moved::Lost;
+        }
+        row = to;
+        falls += 1;
+    }
+}
+
+// Whether a row is none of n rows, or no tables have so many, or these have fewer.
+fn is_short(goto: &[u16], fall: &[u16], out: &[u64], n: usize, row: usize) -> bool
+    ensures { λ r. ⌜ r ≡ isShort (now (goto .entry)) (now (fall .entry)) (now (out .entry)) n row ⌝ }
+{
+    if n <= row {
+        return true;
+    }
+    if Book::ROWS < n {
+        return true;
+    }
+    if goto.len() / 256 < n {
+        return true;
+    }
+    if fall.len() < n {
+        return true;
+    }
+    out.len() < n
+}
+
+// One byte's move. Where the row is none of n rows, or the tables have fewer, it is lost too.
+pub fn move_on(goto: &[u16], fall: &[u16], out: &[u64], n: usize, from: usize, byte: u8) -> Moved
+    ensures { λ r. ⌜ r ≡ moveOf (now (goto .entry)) (now (fall .entry)) (now (out .entry)) n from byte ⌝ }
+{
+    if is_short(goto, fall, out, n, from) {
+        return Moved::Lost;
+    }
+    move_from(goto, fall, out, n, from, byte)
+}
+
+// Whether the tables lend n rows, and n is not 0.
+fn has_rows(goto: &[u16], fall: &[u16], held: &[u8], live: &[u64], out: &[u64], n: usize) -> bool
+    ensures { λ r. ⌜ r ≡ hasRows (five (now (goto .entry)) (now (fall .entry)) (now (held .entry)) (now (live .entry)) (now (out .entry))) n ⌝ }
+{
+    if n == 0 {
+        return false;
+    }
+    n <= build::rows_lent(goto.len(), fall.len(), held.len(), live.len(), out.len())
+}
+
+// The first pass, which writes nothing. The loop over falls is left by the outer label where a look finds what no build writes.
+fn count(goto: &[u16], fall: &[u16], out: &[u64], n: usize, text: &[u8]) -> Counted
+    requires { ⌜ Walkable (now goto) (now fall) (now out) n (now text) ⌝ }
+    ensures { λ r. ⌜ r ≡ runOf (now (goto .entry)) (now (fall .entry)) (now (out .entry)) n (now (text .entry)) ⌝ }
+{
+    let mut row = 0;
+    let mut falls: u64 = 0;
+    let mut made = 0;
+    let mut at = 0;
+    let mut sound = true;
+    'bytes: while at < text.len() {
+        let byte = text[at];
+        let mut more: u64 = 0;
+        'falls: loop {
+            let entry = entry_at(goto, row, byte);
+            if entry < n {
+                row = entry;
+                break 'falls;
+            }
+            let to = fall_at(fall, row);
+            if is_unwritten(n, row, entry, to) {
+                sound = false;
+                break 'bytes;
+            }
+            row = to;
+            more += 1;
+        }
+        falls += more;
+        made += many(out, row);
+        at += 1;
+    }
+    if sound {
+        Counted::Read { made, falls, row }
+    } else {
+        Counted::Stopped { at }
+    }
+}
+
+// Writes (end, k) from reports[at] on for each rule k of a row, ascending, and answers where the next would go.
+fn report(out: &[u64], row: usize, end: u32, reports: &mut [u32], at: usize) -> usize
+    requires { ⌜ (rowWords * row < length (now out)) × (at + 2 * length (reported (now out) row) ≤ length (now reports)) ⌝ }
+    ensures { λ r. ⌜ (r ≡ at + 2 * length (reported (now (out .entry)) row)) × (now (reports .exit) ≡ stored (now (reports .entry)) at (pairs end (reported (now (out .entry)) row))) ⌝ }
+{
+    sets::write_members(out[row], end, reports, at)
+}
+
+// The second pass, up to the last of the reports, which fill `places` places.
+fn write(
+    goto: &[u16],
+    fall: &[u16],
+    out: &[u64],
+    n: usize,
+    text: &[u8],
+    places: usize,
+    reports: &mut [u32],
+)
+    requires { ⌜ Walkable (now goto) (now fall) (now out) n (now text) ⌝ }
+    requires { ⌜ (length (reportsOf (now goto) (now fall) (now out) n (now text)) ≡ places) × (places ≤ length (now reports)) ⌝ }
+    ensures { λ _. ⌜ now (reports .exit) ≡ written (reportsOf (now (goto .entry)) (now (fall .entry)) (now (out .entry)) n (now (text .entry))) (now (reports .entry)) ⌝ }
+{
+    let mut row = 0;
+    let mut to = 0;
+    let mut at = 0;
+    while to < places {
+        match move_from(goto, fall, out, n, row, text[at]) {
+            Moved::Reached {
+                row: next,
+                falls: _,
+                rules: _,
+            } => {
+                row = next;
+                at += 1;
+                to = report(out, row, at as u32, reports, to);
+            }
+            Moved::Lost => return,
+        }
+    }
+}
+
+// The walk over a text. A refusal leaves the reports as they were.
+pub fn walk(
+    goto: &[u16],
+    fall: &[u16],
+    held: &[u8],
+    live: &[u64],
+    out: &[u64],
+    n: usize,
+    text: &[u8],
+    reports: &mut [u32],
+) -> Walked
+    ensures answer { λ r. ⌜ r ≡ walkOf (five (now (goto .entry)) (now (fall .entry)) (now (held .entry)) (now (live .entry)) (now (out .entry))) n (now (text .entry)) (length (now (reports .entry))) ⌝ }
+    ensures buffer { λ r. ⌜ now (reports .exit) ≡ bufferOf r (reportsOf (now (goto .entry)) (now (fall .entry)) (now (out .entry)) n (now (text .entry))) (now (reports .entry)) ⌝ }
+{
+    if Book::TEXT < text.len() {
+        return Walked::TooLong;
+    }
+    if !has_rows(goto, fall, held, live, out, n) {
+        return Walked::BadRows { rows: n };
+    }
+    match count(goto, fall, out, n, text) {
+        Counted::Stopped { at } => Walked::Damaged { at },
+        Counted::Read { made, falls, row } => {
+            if reports.len() / 2 < made {
+                return Walked::NoRoom { needed: made };
+            }
+            write(goto, fall, out, n, text, 2 * made, reports);
+            Walked::Accepted {
+                reports: made,
+                falls,
+                held: held[row],
+            }
+        }
+    }
+}

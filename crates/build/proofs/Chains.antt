@@ -1,5 +1,5 @@
--- The rows in chains by their fall: with no row but 0, with one row more, and a search along one of them. Assumes nothing.
-use mathlib.Core.Path.{_≡_, refl, sym, _∙_}
+-- The rows in chains: with no row but 0, with one row more, and a search along one of them. Assumes nothing.
+use mathlib.Core.Path.{_≡_, refl, sym, ap₂, _∙_}
 use mathlib.Core.Logic.{_≢_}
 use mathlib.Core.List.{List}
 use Prim.Native.Nat.{ℕ, _+_, _<_}
@@ -8,78 +8,88 @@ use native.Mathlib.Decide.{decLt}
 use lib.ListN.{length, getD, set, replicate, length-set, length-replicate}
 use lib.Seq.{getD-set-same, getD-set-other}
 use Rattle.rows.proofs.Compare.{less, equal, more, order}
+use Rattle.meaning.proofs.Build.{Put}
 use Rattle.book.specs.Limits.{mostRows}
-use Rattle.build.specs.Course.{numberAt, Stored, Key, Rising, Newest, Chains}
+use Rattle.build.specs.Course.{Key, Rising, chainOf, chainAt, Newest, Chains}
 use Rattle.build.specs.declared.Placed.the-variants as placed
 use Rattle.build.specs.declared.Filled.the-variants as filled
 use Rattle.build.proofs.Laws.{all-zero}
+use Rattle.build.proofs.Steps.{stored-number, stored-set}
 
-pub chains-start : (m : ℕ) → m ≡ mostRows → (fall : List ℕ) → Chains (replicate m 0) (replicate m 0) fall 1
-chains-start m e fall = record {
+pub chains-start : (m : ℕ) → m ≡ mostRows → (chain : ℕ → ℕ) → Chains (replicate m 0) (replicate m 0) chain 1
+chains-start m e chain = record {
   first-long = length-replicate m 0 ∙ e;
   older-long = length-replicate m 0 ∙ e;
-  heads = λ f. rw (all-zero m f) (record { below = omega arith; same = λ z. absurd (z refl); gap = λ j a b. absurd (omega arith) });
+  heads = λ g. rw (all-zero m g) (record { below = omega arith; same = λ z. absurd (z refl); gap = λ j a b. absurd (omega arith) });
   links = λ i l z. absurd (z (omega arith));
 }
 
 -- ---- one row more
 
-newest-kept : {xs ys : List ℕ} {n f i : ℕ} → ((j : ℕ) → j < n → getD ys j 0 ≡ getD xs j 0) → Newest xs n f i → Newest ys n f i
+newest-kept : {old new : ℕ → ℕ} {n g i : ℕ} → ((j : ℕ) → j < n → new j ≡ old j) → Newest old n g i → Newest new n g i
 newest-kept {i = i} e k = record {
   below = k .below;
   same = λ z. e i (k .below) ∙ k .same z;
   gap = λ j a b q. k .gap j a b (sym (e j b) ∙ q);
 }
 
--- a row that falls elsewhere
-newest-other : {xs ys : List ℕ} {n v f i : ℕ} → Stored 1 numberAt n v xs ys → v ≢ f → Newest xs n f i → Newest ys (n + 1) f i
-newest-other {n = n} {i = i} st ne k = record {
+-- a row of another chain
+newest-other : {old new : ℕ → ℕ} {n v g i : ℕ} → Put n v old new → v ≢ g → Newest old n g i → Newest new (n + 1) g i
+newest-other {n = n} {i = i} p ne k = record {
   below = omega (arith, k .below);
-  same = λ z. st .kept i (k .below) ∙ k .same z;
+  same = λ z. p .kept i (k .below) ∙ k .same z;
   gap = λ j a b q. elim (decLt j n) [
-    | yes l ↦ k .gap j a l (sym (st .kept j l) ∙ q)
-    | no g ↦ let e : j ≡ n = omega arith in ne (sym (st .here) ∙ (rw e at q))
+    | yes l ↦ k .gap j a l (sym (p .kept j l) ∙ q)
+    | no o ↦ let e : j ≡ n = omega arith in ne (sym (p .here) ∙ (rw e at q))
   ];
 }
 
-module _ {first older xs ys : List ℕ} {n f : ℕ} (k : Chains first older xs n) (st : Stored 1 numberAt n f xs ys) (hf : f < mostRows) (hn : n < mostRows) where
-  heads-more : (g : ℕ) → Newest ys (n + 1) g (getD (set first f n) g 0)
-  heads-more g =
-      elim (order g f) [
-        | less l ↦ apart (λ e. omega arith)
-        | equal e ↦
-            rw (e, getD-set-same first f n 0 (omega (arith, k .first-long)))
-            (record { below = omega arith; same = λ _. st .here; gap = λ j a b. absurd (omega arith) })
-        | more l ↦ apart (λ e. omega arith)
+module _ {first older : List ℕ} {old new : ℕ → ℕ} {n g : ℕ} (k : Chains first older old n) (p : Put n g old new) (hg : g < mostRows) (hn : n < mostRows) where
+  heads-more : (e : ℕ) → Newest new (n + 1) e (getD (set first g n) e 0)
+  heads-more e =
+      elim (order e g) [
+        | less l ↦ apart (λ q. omega arith)
+        | equal q ↦
+            rw (q, getD-set-same first g n 0 (omega (arith, k .first-long)))
+            (record { below = omega arith; same = λ _. p .here; gap = λ j a b. absurd (omega arith) })
+        | more l ↦ apart (λ q. omega arith)
       ]
     where
-      apart : g ≢ f → Newest ys (n + 1) g (getD (set first f n) g 0)
-      apart ne = rw (getD-set-other first f g n 0 (λ e. ne (omega arith))) (newest-other st (λ e. ne (sym e)) (k .heads g))
+      apart : e ≢ g → Newest new (n + 1) e (getD (set first g n) e 0)
+      apart ne = rw (getD-set-other first g e n 0 (λ q. ne (omega arith))) (newest-other p (λ q. ne (sym q)) (k .heads e))
 
-  links-more : (i : ℕ) → i < n + 1 → i ≢ 0 → Newest ys i (getD ys i 0) (getD (set older n (getD first f 0)) i 0)
+  links-more : (i : ℕ) → i < n + 1 → i ≢ 0 → Newest new i (new i) (getD (set older n (getD first g 0)) i 0)
   links-more i l z =
       elim (decLt i n) [
         | yes h ↦
-            rw (getD-set-other older n i (getD first f 0) 0 (λ e. omega arith), st .kept i h)
-            (newest-kept (λ j b. st .kept j (omega arith)) (k .links i h z))
-        | no g ↦
+            rw (getD-set-other older n i (getD first g 0) 0 (λ e. omega arith), p .kept i h)
+            (newest-kept (λ j b. p .kept j (omega arith)) (k .links i h z))
+        | no o ↦
             let e : i ≡ n = omega arith in
-            rw (e, getD-set-same older n (getD first f 0) 0 (omega (arith, k .older-long)), st .here) (newest-kept (st .kept) (k .heads f))
+            rw (e, getD-set-same older n (getD first g 0) 0 (omega (arith, k .older-long)), p .here) (newest-kept (p .kept) (k .heads g))
       ]
 
-  pub chains-more : Chains (set first f n) (set older n (getD first f 0)) ys (n + 1)
+  pub chains-more : Chains (set first g n) (set older n (getD first g 0)) new (n + 1)
   chains-more = record {
-    first-long = length-set first f n ∙ k .first-long;
-    older-long = length-set older n (getD first f 0) ∙ k .older-long;
+    first-long = length-set first g n ∙ k .first-long;
+    older-long = length-set older n (getD first g 0) ∙ k .older-long;
     heads = heads-more;
     links = links-more;
   }
 
+-- a row stored at n, in its chain
+pub chain-put : (fall live : List ℕ) (n f l : ℕ) → n < length fall → n < length live
+    → Put n (chainOf f l) (chainAt fall live) (chainAt (set fall n f) (set live n l))
+chain-put fall live n f l hf hl =
+    let a = stored-number n f fall hf in
+    let b = stored-set n l live hl in
+    record { kept = λ i h. ap₂ chainOf (a .kept i h) (b .kept i h); here = ap₂ chainOf (a .here) (b .here) }
+
 -- the chains of the rows that an answer counts
-pub chains-placed : {first older fall : List ℕ} {i n e m : ℕ} → placed.Entry i n ≡ placed.Entry e m → Chains first older fall n → Chains first older fall m
+pub chains-placed : {first older : List ℕ} {chain : ℕ → ℕ} {i n e m : ℕ} → placed.Entry i n ≡ placed.Entry e m → Chains first older chain n → Chains first older chain m
 chains-placed {n = n} {m = m} q k = let z : n ≡ m = cc in rw z at k
 
-pub chains-filled : {first older fall : List ℕ} {n m : ℕ} → filled.Rows n ≡ filled.Rows m → Chains first older fall n → Chains first older fall m
+pub chains-filled : {first older : List ℕ} {chain : ℕ → ℕ} {n m : ℕ} → filled.Rows n ≡ filled.Rows m → Chains first older chain n → Chains first older chain m
 chains-filled {n = n} {m = m} q k = let z : n ≡ m = cc in rw z at k
 
 pub not-placed : {A : Type 0} {e m : ℕ} → placed.Full ≡ placed.Entry e m → A
@@ -88,23 +98,27 @@ not-placed q = absurd (let z : _≡_ {A = ℕ} 0 1 = cc in omega arith)
 pub not-filled : {A : Type 0} {m : ℕ} → filled.Full ≡ filled.Rows m → A
 not-filled q = absurd (let z : _≡_ {A = ℕ} 0 1 = cc in omega arith)
 
--- ---- a search for three numbers, along the rows that fall to f
+-- ---- a search for three numbers, along their chain
 
--- row i falls to f, where it is not row 0, and no row above it has the numbers
+-- a row with the numbers is in it
+key-chain : {held live fall : List ℕ} {h l f j : ℕ} → Key held live fall h l f j → chainAt fall live j ≡ chainOf f l
+key-chain y = ap₂ chainOf (y .fall-is) (y .live-is)
+
+-- row i is in the chain, where it is not row 0, and no row above it has the numbers
 pub record Searched (held live fall : List ℕ) (n h l f i : ℕ) : Type 0 where
-  pub same : i ≢ 0 → getD fall i 0 ≡ f
+  pub same : i ≢ 0 → chainAt fall live i ≡ chainOf f l
   pub above : (j : ℕ) → i < j → j < n → ¬ Key held live fall h l f j
 
 module _ {held live fall : List ℕ} {n h l f : ℕ} where
-  pub searched-start : {i : ℕ} → Newest fall n f i → Searched held live fall n h l f i
-  searched-start k = record { same = k .same; above = λ j a b y. k .gap j a b (y .fall-is) }
+  pub searched-start : {i : ℕ} → Newest (chainAt fall live) n (chainOf f l) i → Searched held live fall n h l f i
+  searched-start k = record { same = k .same; above = λ j a b y. k .gap j a b (key-chain y) }
 
   module _ {i : ℕ} (x : Searched held live fall n h l f i) where
-    pub searched-next : {o : ℕ} → i ≢ 0 → Newest fall i (getD fall i 0) o → ¬ Key held live fall h l f i → Searched held live fall n h l f o
+    pub searched-next : {o : ℕ} → i ≢ 0 → Newest (chainAt fall live) i (chainAt fall live i) o → ¬ Key held live fall h l f i → Searched held live fall n h l f o
     searched-next nz k not = record {
       same = λ z. k .same z ∙ x .same nz;
       above = λ j a b y. elim (order j i) [
-        | less d ↦ k .gap j a d (y .fall-is ∙ sym (x .same nz))
+        | less d ↦ k .gap j a d (key-chain y ∙ sym (x .same nz))
         | equal e ↦ not (rw e at y)
         | more d ↦ x .above j d b y
       ];

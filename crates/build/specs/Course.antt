@@ -3,7 +3,7 @@
 use mathlib.Core.Path.{_≡_}
 use mathlib.Core.Logic.{_≢_, _⊎_}
 use mathlib.Core.List.{List, _++_}
-use Prim.Native.Nat.{ℕ, suc, _+_, _*_, _≤_, _<_}
+use Prim.Native.Nat.{ℕ, suc, _+_, _*_, _%_, _≤_, _<_}
 use lib.Bits.{bitOr}
 use lib.ListN.{length, getD, set, take, drop}
 use Rattle.sets.specs.Table.{rowWords, rulesAt}
@@ -74,18 +74,25 @@ pub record Rising (held : List ℕ) (n h : ℕ) : Type 0 where
   pub top : (i : ℕ) → i < n → getD held i 0 ≤ h
   pub low : getD held 0 0 < h
 
--- i is the newest of the rows below n, row 0 apart, that fall to f; 0 where there is none
-pub record Newest (fall : List ℕ) (n f i : ℕ) : Type 0 where
-  pub below : i < n
-  pub same : i ≢ 0 → getD fall i 0 ≡ f
-  pub gap : (j : ℕ) → i < j → j < n → getD fall j 0 ≢ f
+-- the chain of a row with this fall and live set, and that of row i
+abbrev pub chainOf : ℕ → ℕ → ℕ
+chainOf f l = (f + l % 4093) % mostRows
 
--- the rows in chains by their fall: `first` has the newest row of each fall, and `older` for each row the next one with its fall
-pub record Chains (first older fall : List ℕ) (n : ℕ) : Type 0 where
+abbrev pub chainAt : List ℕ → List ℕ → ℕ → ℕ
+chainAt fall live i = chainOf (getD fall i 0) (rulesAt live i)
+
+-- i is the newest of the rows below n, row 0 apart, in the chain g, where `chain` has the chain of each row; 0 where there is none
+pub record Newest (chain : ℕ → ℕ) (n g i : ℕ) : Type 0 where
+  pub below : i < n
+  pub same : i ≢ 0 → chain i ≡ g
+  pub gap : (j : ℕ) → i < j → j < n → chain j ≢ g
+
+-- the rows in chains: `first` has the newest row of each chain, and `older` for each row the next one in its chain
+pub record Chains (first older : List ℕ) (chain : ℕ → ℕ) (n : ℕ) : Type 0 where
   pub first-long : length first ≡ mostRows
   pub older-long : length older ≡ mostRows
-  pub heads : (f : ℕ) → Newest fall n f (getD first f 0)
-  pub links : (i : ℕ) → i < n → i ≢ 0 → Newest fall i (getD fall i 0) (getD older i 0)
+  pub heads : (g : ℕ) → Newest chain n g (getD first g 0)
+  pub links : (i : ℕ) → i < n → i ≢ 0 → Newest chain i (chain i) (getD older i 0)
 
 -- ---- one byte
 

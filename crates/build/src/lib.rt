@@ -5,16 +5,17 @@ use book::Book;
 use book::Pictures;
 use book::Refusal;
 ghost use mathlib.Core.Path.{_≡_};
-ghost use mathlib.Core.List.{List};
 ghost use Prim.Native.Nat.{ℕ, _+_, _*_, _<_, _≤_, min};
 ghost use lib.ListN.{length, getD};
-ghost use Rattle.sets.specs.Table.{rowWords};
+ghost use Rattle.sets.specs.Table.{rowWords, rulesAt};
+ghost use mathlib.Core.Bool.{_&&_};
+ghost use lib.Dec.{eqb};
 ghost use Rattle.meaning.specs.Step.{nextLive};
 ghost use Rattle.book.specs.Limits.{mostRows};
 ghost use Rattle.book.specs.Meant.{rulesIn, rulesHeld};
 ghost use Rattle.build.specs.Lent.{lentOf};
 ghost use Rattle.build.specs.Sets.{Within, Joins, endedIn};
-ghost use Rattle.build.specs.Course.{Leads, Found, Rising, Chains, Descends, Room, InHand, RowOf, Place, RowFilled, Sane, RowBuilt, AllFilled, Makes, zeroOthers, others};
+ghost use Rattle.build.specs.Course.{Leads, Found, Rising, chainOf, chainAt, Chains, Descends, Room, InHand, RowOf, Place, RowFilled, Sane, RowBuilt, AllFilled, Makes, zeroOthers, others};
 ghost use Rattle.build.specs.Promise.{numberOf, valueOf, five, zeros, Promise};
 ghost use Rattle.build.specs.declared.Placed.the-variants.{Entry};
 ghost use Rattle.build.specs.declared.Filled.the-variants.{Rows as Whole};
@@ -121,8 +122,27 @@ fn ended(lengths: &[u8; Book::RULES], rules: usize, held: usize, set: u64) -> u6
     some
 }
 
-// A row of the n with these three numbers, or n. The rows that fall to f are a chain, newest first; the held lengths ascend, so it ends where one is below h.
+// The chain of the rows with this fall and live set: both count, so that a chain is short where many rows have one fall or one live set.
+fn chain(f: u16, l: u64) -> usize
+    ensures { λ r. ⌜ (r ≡ chainOf f l) × (r < mostRows) ⌝ }
+{
+    (f as usize + (l % 4093) as usize) % Book::ROWS
+}
+
+// Whether row i has this live set and this fall.
+fn is_key(fall: &[u16], live: &[u64], i: usize, l: u64, f: u16) -> bool
+    requires { ⌜ (i < length (now fall)) × (rowWords * i < length (now live)) ⌝ }
+    ensures { λ r. ⌜ r ≡ (eqb (rulesAt (now (live .entry)) i) l && eqb (getD (now (fall .entry)) i 0) f) ⌝ }
+{
+    if live[i] != l {
+        return false;
+    }
+    fall[i] == f
+}
+
+// A row of the n with these three numbers, or n. The rows of a chain stand newest first; the held lengths ascend, so it ends where one is below h.
 fn find_row(
+    fall: &[u16],
     held: &[u8],
     live: &[u64],
     first: &[u16; Book::ROWS],
@@ -132,15 +152,15 @@ fn find_row(
     l: u64,
     f: u16,
 ) -> usize
-    requires { ⌜ (n ≤ length (now held)) × (rowWords * n ≤ length (now live)) × (n ≤ mostRows) × (f < n) ⌝ ∗ ⌜ Rising (now held) n h ⌝ ∗ ⌜ ((fall : List ℕ) × Chains (now first) (now older) fall n) ⌝ }
-    ensures { λ r. ⌜ ((fall : List ℕ) → Chains (now (first .entry)) (now (older .entry)) fall n → Found (now (held .entry)) (now (live .entry)) fall n h l f r) ⌝ }
+    requires { ⌜ (n ≤ length (now fall)) × (n ≤ length (now held)) × (rowWords * n ≤ length (now live)) × (n ≤ mostRows) ⌝ ∗ ⌜ Rising (now held) n h ⌝ ∗ ⌜ Chains (now first) (now older) (chainAt (now fall) (now live)) n ⌝ }
+    ensures { λ r. ⌜ Found (now (held .entry)) (now (live .entry)) (now (fall .entry)) n h l f r ⌝ }
 {
-    let mut i = first[f as usize] as usize;
+    let mut i = first[chain(f, l)] as usize;
     while i != 0 {
         if held[i] < h {
             return n;
         }
-        if live[i] == l {
+        if is_key(fall, live, i, l, f) {
             return i;
         }
         i = older[i] as usize;
@@ -190,10 +210,10 @@ fn row_of(
     l: u64,
     f: u16,
 ) -> Placed
-    requires { ⌜ Within (now lengths) rules ⌝ ∗ ⌜ Room lent n (others (now fall) (now held) (now live) (now out)) ⌝ ∗ ⌜ f < n ⌝ ∗ ⌜ Rising (now held) n h ⌝ ∗ ⌜ Chains (now first) (now older) (now fall) n ⌝ }
-    ensures { λ r. ⌜ RowOf (endedIn (now (lengths .entry)) rules h l) lent n h l f (others (now (fall .entry)) (now (held .entry)) (now (live .entry)) (now (out .entry))) (others (now (fall .exit)) (now (held .exit)) (now (live .exit)) (now (out .exit))) r ⌝ ∗ ⌜ ((e m : ℕ) → r ≡ Entry e m → Chains (now (first .exit)) (now (older .exit)) (now (fall .exit)) m) ⌝ }
+    requires { ⌜ Within (now lengths) rules ⌝ ∗ ⌜ Room lent n (others (now fall) (now held) (now live) (now out)) ⌝ ∗ ⌜ f < n ⌝ ∗ ⌜ Rising (now held) n h ⌝ ∗ ⌜ Chains (now first) (now older) (chainAt (now fall) (now live)) n ⌝ }
+    ensures { λ r. ⌜ RowOf (endedIn (now (lengths .entry)) rules h l) lent n h l f (others (now (fall .entry)) (now (held .entry)) (now (live .entry)) (now (out .entry))) (others (now (fall .exit)) (now (held .exit)) (now (live .exit)) (now (out .exit))) r ⌝ ∗ ⌜ ((e m : ℕ) → r ≡ Entry e m → Chains (now (first .exit)) (now (older .exit)) (chainAt (now (fall .exit)) (now (live .exit))) m) ⌝ }
 {
-    let i = find_row(held, live, first, older, n, h, l, f);
+    let i = find_row(fall, held, live, first, older, n, h, l, f);
     if i < n {
         return Placed::Entry(i as u16, n);
     }
@@ -205,8 +225,9 @@ fn row_of(
     held[n] = h;
     live[n] = l;
     out[n] = sets::union(ended(lengths, rules, h as usize, l), below);
-    older[n] = first[f as usize];
-    first[f as usize] = n as u16;
+    let g = chain(f, l);
+    older[n] = first[g];
+    first[g] = n as u16;
     Placed::Entry(n as u16, n + 1)
 }
 
@@ -228,8 +249,8 @@ fn place(
     byte: u8,
     via: u16,
 ) -> Placed
-    requires { ⌜ Within (now lengths) rules ⌝ ∗ ⌜ InHand lent n s (others (now fall) (now held) (now live) (now out)) ⌝ ∗ ⌜ via < n ⌝ ∗ ⌜ Chains (now first) (now older) (now fall) n ⌝ }
-    ensures { λ r. ⌜ Place (rulesIn (now (symbols .entry)) (now (lengths .entry)) (now (pictures .entry)) rules) lent s byte via n (others (now (fall .entry)) (now (held .entry)) (now (live .entry)) (now (out .entry))) (others (now (fall .exit)) (now (held .exit)) (now (live .exit)) (now (out .exit))) r ⌝ ∗ ⌜ ((e m : ℕ) → r ≡ Entry e m → Chains (now (first .exit)) (now (older .exit)) (now (fall .exit)) m) ⌝ }
+    requires { ⌜ Within (now lengths) rules ⌝ ∗ ⌜ InHand lent n s (others (now fall) (now held) (now live) (now out)) ⌝ ∗ ⌜ via < n ⌝ ∗ ⌜ Chains (now first) (now older) (chainAt (now fall) (now live)) n ⌝ }
+    ensures { λ r. ⌜ Place (rulesIn (now (symbols .entry)) (now (lengths .entry)) (now (pictures .entry)) rules) lent s byte via n (others (now (fall .entry)) (now (held .entry)) (now (live .entry)) (now (out .entry))) (others (now (fall .exit)) (now (held .exit)) (now (live .exit)) (now (out .exit))) r ⌝ ∗ ⌜ ((e m : ℕ) → r ≡ Entry e m → Chains (now (first .exit)) (now (older .exit)) (chainAt (now (fall .exit)) (now (live .exit))) m) ⌝ }
 {
     let h = held[s];
     let l = extended(symbols, lengths, pictures, rules, h as usize, live[s], byte);
@@ -274,8 +295,8 @@ fn fill_row(
     s: usize,
     via: [u16; 256],
 ) -> Filled
-    requires { ⌜ Within (now lengths) rules ⌝ ∗ ⌜ InHand lent n s (others (now fall) (now held) (now live) (now out)) ⌝ ∗ ⌜ length (now row) ≡ 256 ⌝ ∗ ⌜ ((c : ℕ) → c < 256 → getD via c 0 < n) ⌝ ∗ ⌜ Chains (now first) (now older) (now fall) n ⌝ }
-    ensures { λ r. ⌜ RowFilled (rulesIn (now (symbols .entry)) (now (lengths .entry)) (now (pictures .entry)) rules) lent s via (now (row .entry)) n (others (now (fall .entry)) (now (held .entry)) (now (live .entry)) (now (out .entry))) (now (row .exit)) (others (now (fall .exit)) (now (held .exit)) (now (live .exit)) (now (out .exit))) r ⌝ ∗ ⌜ ((m : ℕ) → r ≡ Whole m → Chains (now (first .exit)) (now (older .exit)) (now (fall .exit)) m) ⌝ }
+    requires { ⌜ Within (now lengths) rules ⌝ ∗ ⌜ InHand lent n s (others (now fall) (now held) (now live) (now out)) ⌝ ∗ ⌜ length (now row) ≡ 256 ⌝ ∗ ⌜ ((c : ℕ) → c < 256 → getD via c 0 < n) ⌝ ∗ ⌜ Chains (now first) (now older) (chainAt (now fall) (now live)) n ⌝ }
+    ensures { λ r. ⌜ RowFilled (rulesIn (now (symbols .entry)) (now (lengths .entry)) (now (pictures .entry)) rules) lent s via (now (row .entry)) n (others (now (fall .entry)) (now (held .entry)) (now (live .entry)) (now (out .entry))) (now (row .exit)) (others (now (fall .exit)) (now (held .exit)) (now (live .exit)) (now (out .exit))) r ⌝ ∗ ⌜ ((m : ℕ) → r ≡ Whole m → Chains (now (first .exit)) (now (older .exit)) (chainAt (now (fall .exit)) (now (live .exit))) m) ⌝ }
 {
     let mut rows = n;
     let mut c: usize = 0;
@@ -384,8 +405,8 @@ fn build_row(
     n: usize,
     s: usize,
 ) -> Filled
-    requires { ⌜ Within (now lengths) rules ⌝ ∗ ⌜ Sane lent n (now goto) (others (now fall) (now held) (now live) (now out)) ⌝ ∗ ⌜ s < n ⌝ ∗ ⌜ Rising (now held) n (getD (now held) s 0 + 1) ⌝ ∗ ⌜ Chains (now first) (now older) (now fall) n ⌝ }
-    ensures { λ r. ⌜ RowBuilt (rulesIn (now (symbols .entry)) (now (lengths .entry)) (now (pictures .entry)) rules) lent n s (now (goto .entry)) (others (now (fall .entry)) (now (held .entry)) (now (live .entry)) (now (out .entry))) (now (goto .exit)) (others (now (fall .exit)) (now (held .exit)) (now (live .exit)) (now (out .exit))) r ⌝ ∗ ⌜ ((m : ℕ) → r ≡ Whole m → Chains (now (first .exit)) (now (older .exit)) (now (fall .exit)) m) ⌝ }
+    requires { ⌜ Within (now lengths) rules ⌝ ∗ ⌜ Sane lent n (now goto) (others (now fall) (now held) (now live) (now out)) ⌝ ∗ ⌜ s < n ⌝ ∗ ⌜ Rising (now held) n (getD (now held) s 0 + 1) ⌝ ∗ ⌜ Chains (now first) (now older) (chainAt (now fall) (now live)) n ⌝ }
+    ensures { λ r. ⌜ RowBuilt (rulesIn (now (symbols .entry)) (now (lengths .entry)) (now (pictures .entry)) rules) lent n s (now (goto .entry)) (others (now (fall .entry)) (now (held .entry)) (now (live .entry)) (now (out .entry))) (now (goto .exit)) (others (now (fall .exit)) (now (held .exit)) (now (live .exit)) (now (out .exit))) r ⌝ ∗ ⌜ ((m : ℕ) → r ≡ Whole m → Chains (now (first .exit)) (now (older .exit)) (chainAt (now (fall .exit)) (now (live .exit))) m) ⌝ }
 {
     let below = fall[s];
     let via = via_row(goto, fall, below);

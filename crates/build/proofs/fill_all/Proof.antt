@@ -6,7 +6,7 @@ use native.Mathlib.Omega.{arith}
 use borrow.Author.Needs.{needs}
 use Rattle.book.specs.Limits.{mostRows}
 use Rattle.book.specs.Meant.{rulesIn}
-use Rattle.build.specs.Course.{Building, start, grow, stuck, RowBuilt, others, Chains, Room}
+use Rattle.build.specs.Course.{Building, start, grow, stuck, RowBuilt, others, chainAt, Chains, Room}
 use Rattle.build.proofs.Laws.{short-in}
 use Rattle.build.proofs.Chains.{chains-start}
 use Rattle.build.proofs.Sanity.{Grown, grown, rising, row-keeps, all-at}
@@ -15,7 +15,7 @@ use Rattle.build.proofs.fill_all.Tie as tie
 
 abbrev Inv-loop : tie.InvT-loop
 Inv-loop symbols lengths pictures rules goto₀ fall₀ held₀ live₀ out₀ lent first₀ older₀ n₀ s₀ goto fall held live out first older n s =
-    (s ≤ n) × Building (rulesIn symbols lengths pictures rules) lent goto₀ (others fall₀ held₀ live₀ out₀) s goto n (others fall held live out) × Chains first older fall n
+    (s ≤ n) × Building (rulesIn symbols lengths pictures rules) lent goto₀ (others fall₀ held₀ live₀ out₀) s goto n (others fall held live out) × Chains first older (chainAt fall live) n
 
 abbrev μ-loop : tie.MeasureT-loop
 μ-loop symbols lengths pictures rules goto₀ fall₀ held₀ live₀ out₀ lent first₀ older₀ n₀ s₀ goto fall held live out first older n s = lent - s

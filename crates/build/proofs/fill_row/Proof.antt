@@ -5,7 +5,7 @@ use native.Mathlib.Nat.{lt-of-lt-of-le, le-antisymm}
 use native.Mathlib.Omega.{arith}
 use borrow.Author.Needs.{needs}
 use Rattle.book.specs.Meant.{rulesIn}
-use Rattle.build.specs.Course.{Filling, begin, next, short, others, Chains, Place}
+use Rattle.build.specs.Course.{Filling, begin, next, short, others, chainAt, Chains, Place}
 use Rattle.build.proofs.Steps.{filling-keeps, filling-long, filling-in-hand, whole-at}
 use Rattle.build.proofs.Chains.{chains-filled, not-filled}
 use Rattle.build.proofs.fill_row.Statement.{statement}
@@ -14,7 +14,7 @@ use Rattle.build.proofs.fill_row.Tie as tie
 abbrev Inv-loop : tie.InvT-loop
 Inv-loop symbols lengths pictures rules row₀ fall₀ held₀ live₀ out₀ first₀ older₀ lent n s via rows₀ c₀ row fall held live out first older rows c =
     (c ≤ 256) × Filling (rulesIn symbols lengths pictures rules) lent s via row₀ n (others fall₀ held₀ live₀ out₀) c row rows (others fall held live out)
-    × Chains first older fall rows
+    × Chains first older (chainAt fall live) rows
 
 abbrev μ-loop : tie.MeasureT-loop
 μ-loop symbols lengths pictures rules row₀ fall₀ held₀ live₀ out₀ first₀ older₀ lent n s via rows₀ c₀ row fall held live out first older rows c = 256 - c

@@ -6,42 +6,46 @@ ghost use lib.ListN.{length};
 fn main() {
     book_a(b"\x52\x00\x02\x00a");
     book_x(b"\x50\x00\x1aabcdefghijklmnopqrstuvwxyz\x52\x00\x08\x00a\x01\x00\x00b\x01\x00");
-    nine(
+    lend(
         b"book y, 9 rows lent",
         b"\x50\x00\x1aabcdefghijklmnopqrstuvwxyz\x52\x00\x04\x01\x00\x001\x52\x00\x06\x00a\x01\x00\x00c\x52\x00\x04\x00a\x00b",
+        2304,
+        9,
+        9,
     );
     refused();
 }
 
 // The rule `a`: two rows.
 fn book_a(bytes: &[u8]) {
-    nine(b"rule a, 9 rows lent", bytes);
-    two(b"rule a, 2 rows lent", bytes);
-    one(b"rule a, 1 row lent", bytes);
-    none(b"rule a, no row lent", bytes);
+    lend(b"rule a, 9 rows lent", bytes, 2304, 9, 9);
+    lend(b"rule a, 2 rows lent", bytes, 512, 2, 2);
+    lend(b"rule a, 1 row lent", bytes, 256, 1, 1);
+    lend(b"rule a, no row lent", bytes, 255, 1, 1);
 }
 
 // Book x: nine rows.
 fn book_x(bytes: &[u8]) {
-    ten(b"book x, 10 rows lent", bytes);
-    nine(b"book x, 9 rows lent", bytes);
-    eight(b"book x, 8 rows lent", bytes);
-    uneven(b"book x, 9 rows lent but 8 of out", bytes);
+    lend(b"book x, 10 rows lent", bytes, 2560, 10, 10);
+    lend(b"book x, 9 rows lent", bytes, 2304, 9, 9);
+    lend(b"book x, 8 rows lent", bytes, 2303, 9, 9);
+    lend(b"book x, 9 rows lent but 8 of out", bytes, 2304, 9, 8);
 }
 
 // Books that the reader refuses.
 fn refused() {
-    one(b"empty book", b"");
-    one(b"cut header", b"\x52\x00");
-    one(b"other tag", b"\x52\x00\x02\x00a\x51\x00\x00");
-    one(b"empty picture", b"\x50\x00\x00");
-    one(b"shared byte", b"\x50\x00\x01a\x50\x00\x01a");
-    one(b"kind 2", b"\x52\x00\x02\x02a");
+    lend(b"empty book", b"", 256, 1, 1);
+    lend(b"cut header", b"\x52\x00", 256, 1, 1);
+    lend(b"other tag", b"\x52\x00\x02\x00a\x51\x00\x00", 256, 1, 1);
+    lend(b"empty picture", b"\x50\x00\x00", 256, 1, 1);
+    lend(b"shared byte", b"\x50\x00\x01a\x50\x00\x01a", 256, 1, 1);
+    lend(b"kind 2", b"\x52\x00\x02\x02a", 256, 1, 1);
 }
 
-// ---- rows lent
-
-fn ten(label: &[u8], bytes: &[u8]) {
+// Builds with so many entries of goto, `outs` places of out, and `rows` of the other tables.
+fn lend(label: &[u8], bytes: &[u8], entries: usize, rows: usize, outs: usize)
+    requires { ⌜ (entries ≤ 2560) × (rows ≤ 10) × (outs ≤ 10) ⌝ }
+{
     let mut goto = [1u16; 2560];
     let mut fall = [1u16; 10];
     let mut held = [1u8; 10];
@@ -50,114 +54,11 @@ fn ten(label: &[u8], bytes: &[u8]) {
     show(
         label,
         bytes,
-        &mut goto,
-        &mut fall,
-        &mut held,
-        &mut live,
-        &mut out,
-    );
-}
-
-fn nine(label: &[u8], bytes: &[u8]) {
-    let mut goto = [1u16; 2304];
-    let mut fall = [1u16; 9];
-    let mut held = [1u8; 9];
-    let mut live = [1u64; 9];
-    let mut out = [1u64; 9];
-    show(
-        label,
-        bytes,
-        &mut goto,
-        &mut fall,
-        &mut held,
-        &mut live,
-        &mut out,
-    );
-}
-
-// goto has entries for one row less than nine, and one more.
-fn eight(label: &[u8], bytes: &[u8]) {
-    let mut goto = [1u16; 2303];
-    let mut fall = [1u16; 9];
-    let mut held = [1u8; 9];
-    let mut live = [1u64; 9];
-    let mut out = [1u64; 9];
-    show(
-        label,
-        bytes,
-        &mut goto,
-        &mut fall,
-        &mut held,
-        &mut live,
-        &mut out,
-    );
-}
-
-fn uneven(label: &[u8], bytes: &[u8]) {
-    let mut goto = [1u16; 2304];
-    let mut fall = [1u16; 9];
-    let mut held = [1u8; 9];
-    let mut live = [1u64; 9];
-    let mut out = [1u64; 8];
-    show(
-        label,
-        bytes,
-        &mut goto,
-        &mut fall,
-        &mut held,
-        &mut live,
-        &mut out,
-    );
-}
-
-fn two(label: &[u8], bytes: &[u8]) {
-    let mut goto = [1u16; 512];
-    let mut fall = [1u16; 2];
-    let mut held = [1u8; 2];
-    let mut live = [1u64; 2];
-    let mut out = [1u64; 2];
-    show(
-        label,
-        bytes,
-        &mut goto,
-        &mut fall,
-        &mut held,
-        &mut live,
-        &mut out,
-    );
-}
-
-fn one(label: &[u8], bytes: &[u8]) {
-    let mut goto = [1u16; 256];
-    let mut fall = [1u16; 1];
-    let mut held = [1u8; 1];
-    let mut live = [1u64; 1];
-    let mut out = [1u64; 1];
-    show(
-        label,
-        bytes,
-        &mut goto,
-        &mut fall,
-        &mut held,
-        &mut live,
-        &mut out,
-    );
-}
-
-fn none(label: &[u8], bytes: &[u8]) {
-    let mut goto = [1u16; 255];
-    let mut fall = [1u16; 1];
-    let mut held = [1u8; 1];
-    let mut live = [1u64; 1];
-    let mut out = [1u64; 1];
-    show(
-        label,
-        bytes,
-        &mut goto,
-        &mut fall,
-        &mut held,
-        &mut live,
-        &mut out,
+        &mut goto[0..entries],
+        &mut fall[0..rows],
+        &mut held[0..rows],
+        &mut live[0..rows],
+        &mut out[0..outs],
     );
 }
 

@@ -33,6 +33,16 @@ those-shift p b i (suc n) = rw (← add-suc b i, those-shift p b (suc i) n) (go 
     go true ks = refl
     go false ks = refl
 
+-- they are at most n
+pub those-le : (p : ℕ → Bool) (i n : ℕ) → length (those p i n) ≤ n
+unfolding those
+those-le p i zero = omega arith
+those-le p i (suc n) = go (p i) (those-le p (suc i) n)
+  where
+    go : (t : Bool) → length (those p (suc i) n) ≤ n → length (keep t i (those p (suc i) n)) ≤ suc n
+    go true h = omega arith
+    go false h = omega arith
+
 pub those-append : (p : ℕ → Bool) (i m n : ℕ) → those p i (m + n) ≡ those p i m ++ those p (i + m) n
 unfolding those
 those-append p i zero n = rw (zero-add, add-zero)
@@ -171,6 +181,9 @@ first-is n s h =
     (λ (e : s ≡ 0). rw (e, members-empty n) (trailing-of-zero n))
     (λ (p : 0 < s). rw (members-step n s p h))
     (eq-zero-or-pos s)
+
+pub first-lt : (n s : ℕ) → 0 < s → s < 2 ^ n → getD (members n s) 0 n < n
+first-lt n s p h = rw (members-step n s p h) (least n s p h .small)
 
 pub members-cons : (n s : ℕ) → 0 < s → s < 2 ^ n → members n s ≡ getD (members n s) 0 n ∷ drop 1 (members n s)
 members-cons n s p h = rw (members-step n s p h)

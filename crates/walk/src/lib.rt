@@ -26,7 +26,7 @@ pub enum Moved {
 }
 
 // The run over a text: the reports and the fallbacks that it makes and its last row, or the byte at which it stops.
-enum Counted {
+pub enum Counted {
     Read { made: usize, falls: u64, row: usize },
     Stopped { at: usize },
 }
@@ -187,7 +187,14 @@ pub fn move_on(goto: &[u16], fall: &[u16], out: &[u64], n: usize, from: usize, b
 }
 
 // Whether the tables lend n rows, and n is not 0.
-fn has_rows(goto: &[u16], fall: &[u16], held: &[u8], live: &[u64], out: &[u64], n: usize) -> bool
+pub fn has_rows(
+    goto: &[u16],
+    fall: &[u16],
+    held: &[u8],
+    live: &[u64],
+    out: &[u64],
+    n: usize,
+) -> bool
     ensures { λ r. ⌜ r ≡ hasRows (five (now (goto .entry)) (now (fall .entry)) (now (held .entry)) (now (live .entry)) (now (out .entry))) n ⌝ }
 {
     if n == 0 {

@@ -1,0 +1,48 @@
+-- Laws of what is added, and of the room for it. Assumes nothing.
+use mathlib.Core.List.{List, [], _∷_, _++_}
+use mathlib.Core.Path.{_≡_, refl, _∙_}
+use Prim.Native.Nat.{ℕ, zero, suc, _+_, _*_, _≤_, _<_}
+use native.Mathlib.Omega.{arith}
+use lib.ListN.{length, getD, set, replicate, length-set}
+use Rattle.book.specs.Limits.{mostRules, mostBytes}
+use Rattle.tally.specs.Lines.{mostCount}
+use Rattle.tally.specs.Tally.{Room, addAll}
+
+pub add-append : (count : ℕ) (js ks sums : List ℕ) → addAll count (js ++ ks) sums ≡ addAll count ks (addAll count js sums)
+unfolding addAll
+add-append count [] ks sums = refl
+add-append count (j ∷ js) ks sums = add-append count js ks (set sums j (getD sums j 0 + count))
+
+pub length-add : (count : ℕ) (ks sums : List ℕ) → length (addAll count ks sums) ≡ length sums
+unfolding addAll
+length-add count [] sums = refl
+length-add count (k ∷ ks) sums = length-add count ks (set sums k (getD sums k 0 + count)) ∙ simp length-set
+
+-- ---- room
+
+set-le : (count : ℕ) (sums : List ℕ) (j k : ℕ) → getD (set sums j (getD sums j 0 + count)) k 0 ≤ getD sums k 0 + count
+set-le count [] j k = omega arith
+set-le count (s ∷ sums) zero zero = omega arith
+set-le count (s ∷ sums) zero (suc k) = omega arith
+set-le count (s ∷ sums) (suc j) zero = omega arith
+set-le count (s ∷ sums) (suc j) (suc k) = set-le count sums j k
+
+add-le : (count : ℕ) → count ≤ mostCount → (ks sums : List ℕ) (k : ℕ) → getD (addAll count ks sums) k 0 ≤ getD sums k 0 + mostCount * length ks
+unfolding addAll
+add-le count h [] sums k = omega arith
+add-le count h (j ∷ ks) sums k = omega (arith, add-le count h ks (set sums j (getD sums j 0 + count)) k, set-le count sums j k)
+
+pub room-less : {a b : ℕ} {sums : List ℕ} → b ≤ a → Room a sums → Room b sums
+room-less h r = record { fits = λ k. omega (arith, r .fits k) }
+
+pub room-add : (count a b : ℕ) (ks sums : List ℕ) → count ≤ mostCount → length ks + b ≤ a → Room a sums → Room b (addAll count ks sums)
+room-add count a b ks sums h l r = record { fits = λ k. omega (arith, r .fits k, add-le count h ks sums k) }
+
+pub zero-at : (n k : ℕ) → _≡_ {A = ℕ} (getD (replicate n 0) k 0) 0
+zero-at zero k = refl
+zero-at (suc n) zero = refl
+zero-at (suc n) (suc k) = zero-at n k
+
+-- at first there is room for all reports of the longest profile
+pub room-zeros : (a : ℕ) → a ≤ mostRules * mostBytes → Room a (replicate mostRules 0)
+room-zeros a h = record { fits = λ k. omega (arith, zero-at mostRules k) }

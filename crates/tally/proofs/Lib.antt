@@ -1,0 +1,5 @@
+-- What the proofs of `tally` share. Assumes nothing.
+pub mod Lines
+pub mod Adding
+pub mod Walks
+pub mod Answers

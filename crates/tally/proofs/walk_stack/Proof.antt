@@ -1,0 +1,126 @@
+-- `tally::walk_stack` meets its contract: the pass from here on is the whole pass, and to add for the frames left makes of the sums what to add
+-- for all makes of the sums at entry. Assumes nothing.
+use Prim.Native.Nat.{_+_, _-_, _*_, _≤_}
+use mathlib.Core.Path.{_≡_, refl, sym, _∙_}
+use native.Mathlib.Nat.{add-zero}
+use native.Mathlib.Omega.{arith}
+use borrow.Author.Needs.{needs}
+use lib.ListN.{length, drop}
+use Rattle.book.specs.Limits.{mostRules}
+use Rattle.walk.specs.Walk.{moveOf}
+use Rattle.tally.specs.declared.Pass.{Pass}
+use Rattle.tally.specs.Lines.{framesOf, onPass, passOver}
+use Rattle.tally.specs.Tally.{Room, addAll, framePass, frameRules, rulesOver, stackPass, stackRules}
+use Rattle.tally.proofs.Lines.{piece, piece-length}
+use Rattle.tally.proofs.Adding.{add-append, room-less, room-add}
+use Rattle.tally.proofs.Walks.{frame-le, stack-rules-step, stack-pass, stack-end, stack-rules-end}
+use Rattle.tally.proofs.walk_stack.Statement.{statement}
+use Rattle.tally.proofs.walk_stack.Tie as tie
+
+abbrev Inv-loop : tie.InvT-loop
+Inv-loop goto fall out n stack base count sums₀ at₀ sums at =
+    (at ≤ length stack + 1) × Room (mostRules * (length stack - at)) sums
+    × (passOver (framePass (moveOf goto fall out n)) (base + at) (framesOf (drop at stack)) ≡ stackPass (moveOf goto fall out n) base stack)
+    × (addAll count (rulesOver (moveOf goto fall out n) (framesOf (drop at stack))) sums ≡ addAll count (stackRules (moveOf goto fall out n) stack) sums₀)
+
+abbrev μ-loop : tie.MeasureT-loop
+μ-loop goto fall out n stack base count sums₀ at₀ sums at = length stack - at
+
+-- a frame's part in the pass, where the frame's pass is q
+turn : (k : tie.After-walk-frame Inv-loop μ-loop) (q : Pass) → k .walk-frame .result ≡ q →
+    let a = k .before .before .before .before .before .before .before .before .before .before .args in
+    let end = k .before .before .before .find .result in
+    onPass q (passOver (framePass (moveOf (a .goto .now) (a .fall .now) (a .out .now) (a .n))) (a .base + (end + 1)) (framesOf (drop (end + 1) (a .stack .now))))
+    ≡ stackPass (moveOf (a .goto .now) (a .fall .now) (a .out .now) (a .n)) (a .base) (a .stack .now)
+turn k q e =
+    let a = k .before .before .before .before .before .before .before .before .before .before .args in
+    let l = k .before .before .before .before .before .loop in
+    let f = k .before .before .before .find .ensures in
+    rw (← k .walk-frame .ensures .0, e) at
+    (sym (stack-pass _ (a .stack .now) (a .base) (l .at) _ (k .before .before .before .before .loop-test .taken) (f .0) (f .1)) ∙ l .inv .2)
+
+loop-holds : tie.Need-loop-holds Inv-loop μ-loop
+unfolding stackPass stackRules
+loop-holds c = let p = c .before .before .before .before .pre in (omega arith, room-less (omega arith) (p .2), rw add-zero, refl)
+
+find-requires : tie.Need-find-requires Inv-loop μ-loop
+find-requires c κs = search needs
+
+sub-walk-frame : tie.Need-sub-walk-frame Inv-loop μ-loop
+sub-walk-frame c = search needs
+
+part-walk-frame-start : tie.Need-part-walk-frame-start Inv-loop μ-loop
+part-walk-frame-start c = search needs
+
+part-walk-frame-end : tie.Need-part-walk-frame-end Inv-loop μ-loop
+part-walk-frame-end c = search needs
+
+add-walk-frame : tie.Need-add-walk-frame Inv-loop μ-loop
+add-walk-frame c = search needs
+
+walk-frame-requires : tie.Need-walk-frame-requires Inv-loop μ-loop
+walk-frame-requires c κs =
+    let s = c .before .before .before .before .before .before .before .before .before in
+    let l = c .before .before .before .before .loop in
+    let p = piece-length (s .args .stack .now) (l .at) (c .before .before .find .result) (omega arith) (omega arith) in
+    (omega arith, omega arith, room-less (omega arith) (l .inv .1))
+
+enum-told : tie.Need-enum-told Inv-loop μ-loop
+enum-told c = search needs
+
+add-at : tie.Need-add-at Inv-loop μ-loop
+add-at c = search needs
+
+loop-less : tie.Need-loop-less Inv-loop μ-loop
+loop-less c = search needs
+
+loop-again : tie.Need-loop-again Inv-loop μ-loop
+loop-again c =
+    let k = c .before .before in
+    let s = k .before .before .before .before .before .before .before .before .before .before in
+    let a = s .args in
+    let l = k .before .before .before .before .before .loop in
+    let f = k .before .before .before .find in
+    let t = k .before .before .before .before .loop-test .taken in
+    let part = piece (a .stack .now) (l .at) (f .result) in
+    let told = rw (c .enum-told .given .1) at (k .walk-frame .ensures .1) in
+    let p = piece-length (a .stack .now) (l .at) (f .result) (omega arith) (f .ensures .1) in (
+      omega arith,
+      rw told (room-add (a .count) _ _ (frameRules (moveOf (a .goto .now) (a .fall .now) (a .out .now) (a .n)) part) (l .sums) (s .pre .1) (omega (arith, frame-le (moveOf (a .goto .now) (a .fall .now) (a .out .now) (a .n)) part)) (l .inv .1)),
+      turn k _ (c .enum-told .given .1),
+      rw told (rw (stack-rules-step _ _ _ _ t (f .ensures .0) (f .ensures .1), add-append) at (l .inv .3)),
+    )
+
+enum-known-lost : tie.Need-enum-known-lost Inv-loop μ-loop
+enum-known-lost c = search needs
+
+returns : tie.Need-returns Inv-loop μ-loop
+returns c = (turn (c .before .before .before) _ (c .before .lost .given .1), tt)
+
+returns-2 : tie.Need-returns-2 Inv-loop μ-loop
+unfolding addAll
+returns-2 c =
+    let l = c .before .loop in
+    let t = c .loop-test .left in
+    (sym (stack-end _ _ _ _ t) ∙ l .inv .2, rw (stack-rules-end _ _ _ t) at (l .inv .3))
+
+pub walk-stack-spec : {M : Type 1} → statement M
+walk-stack-spec =
+    tie.close
+    (tie.spec
+    Inv-loop
+    μ-loop
+    loop-holds
+    find-requires
+    sub-walk-frame
+    part-walk-frame-start
+    part-walk-frame-end
+    add-walk-frame
+    walk-frame-requires
+    enum-told
+    add-at
+    loop-less
+    loop-again
+    enum-known-lost
+    returns
+    returns-2)

@@ -1,0 +1,141 @@
+-- The tally of a folded profile, as functions on lists: what the walk of each frame reports, what is added, and the answer. What lies behind one
+-- byte's move is not looked at: `move` is any function of a row and a byte. Assumes nothing.
+use mathlib.Core.Bool.{cond}
+use mathlib.Core.List.{List, [], _∷_, _++_}
+use mathlib.Core.Path.{_≡_}
+use Prim.Native.Nat.{ℕ, _+_, _*_, _^_, _<_}
+use lib.Dec.{ltb}
+use lib.ListN.{length, getD, set, take, replicate}
+use Rattle.sets.specs.Sets.{members}
+use Rattle.meaning.specs.Tables.{Five}
+use Rattle.book.specs.Limits.{mostRules, mostBytes}
+use Rattle.walk.specs.declared.Moved.{Moved}
+use Rattle.walk.specs.declared.Moved.the-variants.{Reached, Lost}
+use Rattle.walk.specs.Walk.{moveOf, written, hasRows}
+use Rattle.tally.specs.declared.Pass.{Pass}
+use Rattle.tally.specs.declared.Pass.the-variants.{Through, Ends}
+use Rattle.tally.specs.declared.Tallied.{Tallied}
+use Rattle.tally.specs.declared.Tallied.the-variants.{Accepted, TooLong, BadRows, FewSums, BadLine, Damaged}
+use Rattle.tally.specs.Lines.{mostCount, linesOf, framesOf, passOver, lineOf, onLine, checkOf}
+
+-- ---- what the passes ask and leave
+
+-- room in the sums for so many reports
+pub record Room (reports : ℕ) (sums : List ℕ) : Type 0 where
+  pub fits : (k : ℕ) → getD sums k 0 + mostCount * reports < 2 ^ 64
+
+-- A pass that gets through leaves these sums.
+abbrev pub After : Pass → List ℕ → List ℕ → Type 0
+After Through sums told = sums ≡ told
+After (Ends at) sums told = Unit {0}
+
+-- ---- what is added
+
+-- The count added to sum k, for each of the rules.
+unfoldable pub addAll : ℕ → List ℕ → List ℕ → List ℕ
+addAll count [] sums = sums
+addAll count (k ∷ rules) sums = addAll count rules (set sums k (getD sums k 0 + count))
+
+-- ---- walks
+
+-- f of the row that a move reached and of the rules reported there, or z where it is lost
+abbrev pub afterMove : {A : Type 0} → Moved → (ℕ → ℕ → A) → A → A
+afterMove (Reached row falls rules) f z = f row rules
+afterMove Lost f z = z
+
+module _ (move : ℕ → ℕ → Moved) where
+  -- What is left of a frame, from a row on, `at` bytes into the profile: it ends at the byte whose move is lost.
+  unfoldable pub passFrom : ℕ → ℕ → List ℕ → Pass
+  passFrom at row [] = Through
+  passFrom at row (c ∷ frame) = afterMove (move row c) (λ to rules. passFrom (at + 1) to frame) (Ends at)
+
+  -- The rules that it reports, in order, each as often as it is reported.
+  unfoldable pub rulesFrom : ℕ → List ℕ → List ℕ
+  rulesFrom row [] = []
+  rulesFrom row (c ∷ frame) = afterMove (move row c) (λ to rules. members mostRules rules ++ rulesFrom to frame) []
+
+  -- Each frame is walked as a text of its own, from row 0.
+  unfoldable pub framePass : ℕ → List ℕ → Pass
+  framePass at frame = passFrom at 0 frame
+
+  unfoldable pub frameRules : List ℕ → List ℕ
+  frameRules frame = rulesFrom 0 frame
+
+  unfoldable pub rulesOver : List (List ℕ) → List ℕ
+  rulesOver [] = []
+  rulesOver (f ∷ fs) = frameRules f ++ rulesOver fs
+
+  unfoldable pub stackPass : ℕ → List ℕ → Pass
+  stackPass at stack = passOver framePass at (framesOf stack)
+
+  -- The rules that a stack's frames report.
+  unfoldable pub stackRules : List ℕ → List ℕ
+  stackRules stack = rulesOver (framesOf stack)
+
+  unfoldable pub linePass : ℕ → List ℕ → Pass
+  linePass at line = onLine (lineOf line) (λ stack count. stackPass at (take stack line)) Through
+
+  -- The sums after a line: its count is added for each report.
+  unfoldable pub lineSums : List ℕ → List ℕ → List ℕ
+  lineSums line sums = onLine (lineOf line) (λ stack count. addAll count (stackRules (take stack line)) sums) sums
+
+  unfoldable pub sumsOver : List (List ℕ) → List ℕ → List ℕ
+  sumsOver [] sums = sums
+  sumsOver (l ∷ ls) sums = sumsOver ls (lineSums l sums)
+
+  unfoldable pub linesPass : List ℕ → Pass
+  linesPass profile = passOver linePass 0 (linesOf profile)
+
+  unfoldable pub linesSums : List ℕ → List ℕ → List ℕ
+  linesSums profile sums = sumsOver (linesOf profile) sums
+
+  -- The sums of a profile.
+  abbrev pub sumsOf : List ℕ → List ℕ
+  sumsOf profile = linesSums profile (replicate mostRules 0)
+
+-- ---- the answer
+
+-- one byte's move over the tables
+abbrev pub moveBy : Five → ℕ → ℕ → ℕ → Moved
+moveBy b n = moveOf (b .goto) (b .fall) (b .out) n
+
+-- by the pass over all lines, then by the walks
+abbrev pub answerOf : Pass → Pass → Tallied
+answerOf (Ends at) walks = BadLine at
+answerOf Through (Ends at) = Damaged at
+answerOf Through Through = Accepted
+
+-- The tally's answer, with a sums buffer of so many places.
+abbrev pub tallyOf : Five → ℕ → List ℕ → ℕ → Tallied
+tallyOf b n profile places =
+    cond (ltb mostBytes (length profile)) TooLong
+    (cond (hasRows b n)
+    (cond (ltb places mostRules) (FewSums places)
+    (answerOf (checkOf profile) (linesPass (moveBy b n) profile)))
+    (BadRows n))
+
+-- The sums buffer after an answer: a refusal leaves it as it was.
+abbrev pub bufferOf : Tallied → List ℕ → List ℕ → List ℕ
+bufferOf Accepted sums old = written sums old
+bufferOf TooLong sums old = old
+bufferOf (BadRows rows) sums old = old
+bufferOf (FewSums places) sums old = old
+bufferOf (BadLine at) sums old = old
+bufferOf (Damaged at) sums old = old
+
+-- The paper's number of an answer, and its value.
+abbrev pub numberOf : Tallied → ℕ
+numberOf Accepted = 0
+numberOf TooLong = 11
+numberOf (BadRows rows) = 12
+numberOf (FewSums places) = 16
+numberOf (BadLine at) = 15
+numberOf (Damaged at) = 13
+
+abbrev pub valueOf : Tallied → ℕ
+valueOf Accepted = 0
+valueOf TooLong = mostBytes
+valueOf (BadRows rows) = rows
+valueOf (FewSums places) = places
+valueOf (BadLine at) = at
+valueOf (Damaged at) = at

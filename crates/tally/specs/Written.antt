@@ -1,0 +1,62 @@
+-- Lines, counts and frames in plain words, which the functions of `Lines` are shown to compute. Assumes nothing.
+use mathlib.Core.List.{List, [], _∷_, _++_}
+use mathlib.Core.Logic.{_⊎_, _↔_, _≢_}
+use mathlib.Core.Path.{_≡_}
+use Prim.Native.Nat.{ℕ, _+_, _-_, _*_, _≤_, _<_}
+use lib.ListN.{length, getD}
+use Rattle.tally.specs.declared.Count.the-variants.{Is}
+use Rattle.tally.specs.declared.Line.the-variants.{Sound}
+use Rattle.tally.specs.Lines.{lf, space, semicolon, mostCount, linesOf, framesOf, countOf, lineOf}
+
+-- ---- pieces
+
+-- the pieces with a mark between each two
+unfoldable pub join : ℕ → List (List ℕ) → List ℕ
+join mark [] = []
+join mark (p ∷ []) = p
+join mark (p ∷ q ∷ ps) = p ++ mark ∷ join mark (q ∷ ps)
+
+-- none of the pieces has a mark in it
+abbrev pub Without : ℕ → List (List ℕ) → Type 0
+Without mark ps = (i j : ℕ) → i < length ps → j < length (getD ps i []) → getD (getD ps i []) j 0 ≢ mark
+
+-- The lines of a profile are without LF, and with an LF between each two, and one or none after the last, they are the profile.
+pub record Lines (profile : List ℕ) : Type 0 where
+  pub whole : (join lf (linesOf profile) ≡ profile) ⊎ (join lf (linesOf profile) ++ lf ∷ [] ≡ profile)
+  pub without : Without lf (linesOf profile)
+
+-- The frames of a stack are without `;`, at least one, and with `;` between each two they are the stack.
+pub record Frames (stack : List ℕ) : Type 0 where
+  pub whole : join semicolon (framesOf stack) ≡ stack
+  pub some : 1 ≤ length (framesOf stack)
+  pub without : Without semicolon (framesOf stack)
+
+-- ---- a count
+
+-- the number that digits make, after the number so far
+unfoldable pub decimal : ℕ → List ℕ → ℕ
+decimal so [] = so
+decimal so (c ∷ s) = decimal (10 * so + (c - 48)) s
+
+-- The digits write k: 1 to 10 of them, `0` in front only where it stands alone, and at most the largest count.
+pub record Writes (digits : List ℕ) (k : ℕ) : Type 0 where
+  pub some : 1 ≤ length digits
+  pub most : length digits ≤ 10
+  pub each : (i : ℕ) → i < length digits → (48 ≤ getD digits i 0) × (getD digits i 0 ≤ 57)
+  pub lead : getD digits 0 0 ≡ 48 → length digits ≡ 1
+  pub value : decimal 0 digits ≡ k
+  pub small : k ≤ mostCount
+
+abbrev pub CountIs : Type 0
+CountIs = (s : List ℕ) (k : ℕ) → (countOf s ≡ Is k) ↔ Writes s k
+
+-- ---- a line
+
+-- The line is a stack that is not empty, a space, and the digits of k; no digit is a space, so it is the last one.
+pub record IsLine (line stack digits : List ℕ) (k : ℕ) : Type 0 where
+  pub whole : line ≡ stack ++ space ∷ digits
+  pub some : 1 ≤ length stack
+  pub count : Writes digits k
+
+abbrev pub LineIs : Type 0
+LineIs = (line : List ℕ) (n k : ℕ) → (lineOf line ≡ Sound n k) ↔ ((stack digits : List ℕ) × IsLine line stack digits k × (length stack ≡ n))

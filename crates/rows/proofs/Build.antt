@@ -12,7 +12,7 @@ use Rattle.rows.specs.Rows.{ByteText, Before, none, earlier, last, IsRow
 use Rattle.rows.proofs.Order.{before-nil, before-trans, before-cons}
 use Rattle.rows.proofs.Rows.{Congruence, distinct, row-before, row-same, row-append}
 
-byte-cons : (c : ℕ) (t : List ℕ) → c < 256 → ByteText t → ByteText (c ∷ t)
+pub byte-cons : (c : ℕ) (t : List ℕ) → c < 256 → ByteText t → ByteText (c ∷ t)
 byte-cons c t l b zero = l
 byte-cons c t l b (suc i) = b i
 

@@ -19,7 +19,7 @@ use Rattle.build.specs.declared.Built.{Built}
 use Rattle.walk.specs.declared.Walked.{Walked}
 use Rattle.walk.specs.declared.Walked.the-variants.{Accepted, TooLong, BadRows, Damaged, NoRoom}
 use Rattle.walk.specs.Walk.{reportsOf, walkOf}
-use Rattle.walk.specs.Demands.{Occurs}
+use Rattle.walk.specs.Demands.{Occurs, Lists}
 use Rattle.tally.specs.declared.Line.the-variants.{Broken}
 use Rattle.tally.specs.declared.Pass.{Pass}
 use Rattle.tally.specs.declared.Pass.the-variants.{Through, Ends}
@@ -109,12 +109,10 @@ Walks = (b : Five) (n : ℕ) → n ≢ 0 → n ≤ lent b → (frame : List ℕ)
 
 -- ---- how often a rule occurs
 
--- P has just m numbers: they are the m entries of an ascending list
-pub record Number (P : ℕ → Type 0) (m : ℕ) : Type 0 where
+-- Rule k has just m occurrences in the text: those of demand 2, listed by their ends.
+pub record Number (r : Rules) (text : List ℕ) (k m : ℕ) : Type 0 where
   pub list : List ℕ
-  pub long : length list ≡ m
-  pub ascending : (i : ℕ) → suc i < m → getD list i 0 < getD list (suc i) 0
-  pub each : (e : ℕ) → ((i : ℕ) × (i < m) × (getD list i 0 ≡ e)) ↔ P e
+  pub lists : Lists (λ e j. (j ≡ k) × Occurs r text e j) list m
 
 module _ (r : Rules) (k : ℕ) where
   -- how often rule k ends in a text, after what was read before
@@ -159,7 +157,7 @@ pub record Summed (r : Rules) (w : Call) : Type 0 where
   -- then sum k is the total of counts times occurrences
   pub sums : Answers w 0 0 → (k : ℕ) → k < mostRules → getD (after w) k 0 ≡ total r k (w .profile)
   -- where `times` is the number of demand 2's occurrences
-  pub occurrences : (k : ℕ) (text : List ℕ) → Number (λ e. Occurs r text e k) (times r k text)
+  pub occurrences : (k : ℕ) (text : List ℕ) → Number r text k (times r k text)
 
 abbrev pub Sums : Type 0
 Sums = (r : Rules) (w : Call) → Over r w → Summed r w

@@ -2,7 +2,7 @@
 use mathlib.Core.List.{List, [], _∷_, _++_}
 use mathlib.Core.Logic.{_⊎_, _↔_, _≢_}
 use mathlib.Core.Path.{_≡_}
-use Prim.Native.Nat.{ℕ, _+_, _-_, _*_, _≤_, _<_}
+use Prim.Native.Nat.{ℕ, suc, _+_, _-_, _*_, _≤_, _<_}
 use lib.ListN.{length, getD}
 use Rattle.tally.specs.declared.Count.the-variants.{Is}
 use Rattle.tally.specs.declared.Line.the-variants.{Sound}
@@ -20,9 +20,14 @@ join mark (p ∷ q ∷ ps) = p ++ mark ∷ join mark (q ∷ ps)
 abbrev pub Without : ℕ → List (List ℕ) → Type 0
 Without mark ps = (i j : ℕ) → i < length ps → j < length (getD ps i []) → getD (getD ps i []) j 0 ≢ mark
 
--- The lines of a profile are without LF, and with an LF between each two, and one or none after the last, they are the profile.
+-- the last piece, if there is one, is not empty
+abbrev pub LastSome : List (List ℕ) → Type 0
+LastSome ps = (i : ℕ) → suc i ≡ length ps → 1 ≤ length (getD ps i [])
+
+-- The lines of a profile are without LF, and with an LF between each two they are the profile, but for an LF that ends the last. It is missing only
+-- where the last line is not empty, or where there is none.
 pub record Lines (profile : List ℕ) : Type 0 where
-  pub whole : (join lf (linesOf profile) ≡ profile) ⊎ (join lf (linesOf profile) ++ lf ∷ [] ≡ profile)
+  pub whole : ((join lf (linesOf profile) ≡ profile) × LastSome (linesOf profile)) ⊎ (join lf (linesOf profile) ++ lf ∷ [] ≡ profile) × (1 ≤ length (linesOf profile))
   pub without : Without lf (linesOf profile)
 
 -- The frames of a stack are without `;`, at least one, and with `;` between each two they are the stack.

@@ -102,7 +102,7 @@ module _ (goto fall out : List ℕ) (n : ℕ) where
   within-in zero row c falls = tt
   within-in (suc k) row c falls = within-look out n row falls (lookAt goto fall n row c) _ (at-sound goto fall n row c) (λ f. within-in k f c (falls + 1))
 
-  move-within : (row c falls : ℕ) → Within n (moveFrom goto fall out n row c falls)
+  pub move-within : (row c falls : ℕ) → Within n (moveFrom goto fall out n row c falls)
   unfolding moveFrom
   move-within row c falls = within-in (suc row) row c falls
 

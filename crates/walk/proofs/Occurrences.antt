@@ -33,13 +33,13 @@ occurrences r text = occurrencesFrom r 0 [] text
 
 -- ---- the pairs to come
 
-record Ending (r : Rules) (at : ℕ) (t text : List ℕ) (e k : ℕ) : Type 0 where
-  past : at < e
-  within : e ≤ at + length text
-  rule : k < count r
-  here : ends r (reverseAux (take (e - at) text) t) k ≡ true
+pub record Ending (r : Rules) (at : ℕ) (t text : List ℕ) (e k : ℕ) : Type 0 where
+  pub past : at < e
+  pub within : e ≤ at + length text
+  pub rule : k < count r
+  pub here : ends r (reverseAux (take (e - at) text) t) k ≡ true
 
-has-out : (r : Rules) (t : List ℕ) (k : ℕ) → (has (out r t) k ≡ true) ↔ (k < count r) × (ends r t k ≡ true)
+pub has-out : (r : Rules) (t : List ℕ) (k : ℕ) → (has (out r t) k ≡ true) ↔ (k < count r) × (ends r t k ≡ true)
 unfolding out
 has-out r t k =
     let b = and-eq-true-iff (ltb k (count r)) (ends r t k) in (
@@ -48,10 +48,10 @@ has-out r t k =
     )
 
 -- those of one byte, and those of the rest
-abbrev Next : Rules → ℕ → ℕ → List ℕ → List ℕ → ℕ → ℕ → Type 0
+abbrev pub Next : Rules → ℕ → ℕ → List ℕ → List ℕ → ℕ → ℕ → Type 0
 Next r at c t text e k = ((at + 1 ≡ e) × (k < mostRules) × (has (out r (c ∷ t)) k ≡ true)) ⊎ Ending r (at + 1) (c ∷ t) text e k
 
-ending-cons : (r : Rules) → count r ≤ mostRules → (at c : ℕ) (t text : List ℕ) (e k : ℕ) → Next r at c t text e k ↔ Ending r at t (c ∷ text) e k
+pub ending-cons : (r : Rules) → count r ≤ mostRules → (at c : ℕ) (t text : List ℕ) (e k : ℕ) → Next r at c t text e k ↔ Ending r at t (c ∷ text) e k
 ending-cons r few at c t text e k = (join, split)
   where
     join : Next r at c t text e k → Ending r at t (c ∷ text) e k
@@ -151,7 +151,7 @@ module _ (r : Rules) (text : List ℕ) (e k : ℕ) (h : e ≤ length text) where
       let s : size r k ≤ e = omega (arith, back-length, f .bytes) in
       record { rule = l; some = ltb-true 0 (size r k) some; starts = s; ends = h; each = λ i l. rw (back-at i l s) at (f .each i l) }
 
-ending-occurs : (r : Rules) (text : List ℕ) (e k : ℕ) → Ending r 0 [] text e k ↔ Occurs r text e k
+pub ending-occurs : (r : Rules) (text : List ℕ) (e k : ℕ) → Ending r 0 [] text e k ↔ Occurs r text e k
 ending-occurs r text e k = (
   λ x. let h : e ≤ length text = omega (arith, x .within) in ends-occurs r text e k h (x .rule) (rw sub-zero at (x .here)),
   λ x. record { past = omega (arith, x .some, x .starts); within = omega (arith, x .ends); rule = x .rule; here = rw sub-zero (occurs-ends r text e k (x .ends) x) },

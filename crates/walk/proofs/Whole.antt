@@ -13,7 +13,7 @@ use Rattle.walk.specs.Whole.{Searched, Searches}
 use Rattle.walk.proofs.Demands.{matches}
 
 -- the buffers are as long as before, so the rows are lent
-built : {r : Rules} {old b : Five} {i v : ℕ} → Builds r old b i v → i ≡ 0 → Tables r b v × (v ≤ lent b)
+pub built : {r : Rules} {old b : Five} {i v : ℕ} → Builds r old b i v → i ≡ 0 → Tables r b v × (v ≤ lent b)
 built (accepted l t long) z = (t, rw (long .goto-long, long .fall-long, long .held-long, long .live-long, long .out-long) l)
 built (no-room m) z = absurd (omega arith)
 

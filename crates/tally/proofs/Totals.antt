@@ -1,0 +1,136 @@
+-- A tally over the tables of rules gets through, and its sums are those of the rules and the profile alone. Assumes nothing.
+use mathlib.Core.Bool.{Bool, true, false, cond}
+use mathlib.Core.List.{List, [], _∷_, _++_}
+use mathlib.Core.Logic.{_≢_}
+use mathlib.Core.Path.{_≡_, refl, ap, _∙_}
+use Prim.Native.Nat.{ℕ, zero, suc, _+_, _*_, _≤_, _<_}
+use native.Mathlib.Nat.{add-zero, zero-add, add-assoc}
+use native.Mathlib.Omega.{arith}
+use lib.Dec.{eqb}
+use lib.ListN.{length, getD, take, replicate}
+use Rattle.rows.specs.Rows.{ByteText, IsRow}
+use Rattle.rows.proofs.Build.{byte-cons}
+use Rattle.sets.specs.Sets.{has, members}
+use Rattle.meaning.specs.Rules.{Rules}
+use Rattle.meaning.specs.Standing.{Same}
+use Rattle.meaning.specs.Tables.{Five, Tables}
+use Rattle.meaning.proofs.Looks.{row-first}
+use Rattle.book.specs.Limits.{mostRules}
+use Rattle.build.specs.Promise.{lent}
+use Rattle.walk.specs.declared.Moved.{Moved}
+use Rattle.walk.proofs.Demands.{moves}
+use Rattle.tally.specs.declared.Line.{Line}
+use Rattle.tally.specs.declared.Line.the-variants.{Sound, Broken}
+use Rattle.tally.specs.declared.Pass.{Pass}
+use Rattle.tally.specs.declared.Pass.the-variants.{Through}
+use Rattle.tally.specs.Lines.{lf, semicolon, joined, split, linesOf, framesOf, passOver, lineOf, onLine}
+use Rattle.tally.specs.Tally.{addAll, passFrom, rulesFrom, framePass, frameRules, rulesOver, stackPass, stackRules, linePass, lineSums, sumsOver, linesPass, linesSums, sumsOf, moveBy}
+use Rattle.tally.specs.Totals.{timesFrom, times, timesIn, partOf, partsOf, total}
+use Rattle.tally.proofs.Adding.{zero-at}
+use Rattle.tally.proofs.Walks.{line-length}
+use Rattle.tally.proofs.Times.{among, among-append, among-those, add-times}
+
+-- ---- pieces of bytes
+
+pub data All : List (List ℕ) → Type 0 where
+  empty : All []
+  more : {p : List ℕ} {ps : List (List ℕ)} → ByteText p → All ps → All (p ∷ ps)
+
+no-byte : ByteText []
+no-byte i = omega arith
+
+joined-all : (c : ℕ) (ps : List (List ℕ)) → c < 256 → All ps → All (joined c ps)
+joined-all c [] h empty = more (byte-cons c [] h no-byte) empty
+joined-all c (p ∷ ps) h (more b a) = more (byte-cons c p h b) a
+
+split-all : (mark : ℕ) (last : List (List ℕ)) → All last → (text : List ℕ) → ByteText text → All (split mark last text)
+unfolding split
+split-all mark last a [] b = a
+split-all mark last a (c ∷ text) b = go (eqb c mark) (split-all mark last a text (λ i. b (suc i)))
+  where
+    go : (t : Bool) → All (split mark last text) → All (cond t ([] ∷ split mark last text) (joined c (split mark last text)))
+    go true r = more no-byte r
+    go false r = joined-all c (split mark last text) (b 0) r
+
+take-bytes : (i : ℕ) (text : List ℕ) → ByteText text → ByteText (take i text)
+take-bytes zero text b = no-byte
+take-bytes (suc i) [] b = no-byte
+take-bytes (suc i) (c ∷ text) b = byte-cons c (take i text) (b 0) (take-bytes i text (λ j. b (suc j)))
+
+frames-all : (n : ℕ) (line : List ℕ) → ByteText line → All (framesOf (take n line))
+frames-all n line b = split-all semicolon ([] ∷ []) (more no-byte empty) (take n line) (take-bytes n line b)
+
+-- a pass that each piece lets through
+through : (each : ℕ → List ℕ → Pass) → ((at : ℕ) (p : List ℕ) → ByteText p → each at p ≡ Through) → (ps : List (List ℕ)) → All ps → (at : ℕ)
+    → passOver each at ps ≡ Through
+unfolding passOver
+through each h [] empty at = refl
+through each h (p ∷ ps) (more b a) at = rw (h at p b) (through each h ps a (at + length p + 1))
+
+module _ {r : Rules} {b : Five} {n : ℕ} (tables : Tables r b n) (lends : n ≤ lent b) where
+  abbrev move : ℕ → ℕ → Moved
+  move = moveBy b n
+
+  -- ---- each walk gets through
+
+  from-through : (frame : List ℕ) → ByteText frame → (at : ℕ) {t : List ℕ} {i : ℕ} → IsRow (Same r) (tables .texts) t i → passFrom move at i frame ≡ Through
+  unfolding passFrom
+  from-through [] bytes at x = refl
+  from-through (c ∷ frame) bytes at {t} {i} x =
+      let (e, m, y) = moves r b n tables lends t i c x (bytes 0) in
+      rw m (from-through frame (λ j. bytes (suc j)) (at + 1) y)
+
+  frame-through : (at : ℕ) (frame : List ℕ) → ByteText frame → framePass move at frame ≡ Through
+  unfolding framePass
+  frame-through at frame bytes = from-through frame bytes at (row-first tables)
+
+  line-through : (at : ℕ) (line : List ℕ) → ByteText line → linePass move at line ≡ Through
+  unfolding linePass stackPass
+  line-through at line bytes = go (lineOf line)
+    where
+      go : (l : Line) → onLine l (λ stack count. stackPass move at (take stack line)) Through ≡ Through
+      go (Sound stack count) = through (framePass move) frame-through (framesOf (take stack line)) (frames-all stack line bytes) at
+      go Broken = refl
+
+  pub lines-through : (profile : List ℕ) → ByteText profile → linesPass move profile ≡ Through
+  unfolding linesPass
+  lines-through profile bytes = through (linePass move) line-through (linesOf profile) (split-all lf [] empty profile bytes) 0
+
+  -- ---- the sums
+
+  module _ (k : ℕ) (small : k < mostRules) where
+    from-times : (frame : List ℕ) → ByteText frame → {t : List ℕ} {i : ℕ} → IsRow (Same r) (tables .texts) t i → among k (rulesFrom move i frame) ≡ timesFrom r k t frame
+    unfolding rulesFrom timesFrom among members
+    from-times [] bytes x = refl
+    from-times (c ∷ frame) bytes {t} {i} x =
+        let (e, m, y) = moves r b n tables lends t i c x (bytes 0) in
+        rw (m, among-append, among-those (has _) k 0 mostRules (omega arith) (omega arith), from-times frame (λ j. bytes (suc j)) y)
+
+    frame-times : (frame : List ℕ) → ByteText frame → among k (frameRules move frame) ≡ times r k frame
+    unfolding frameRules
+    frame-times frame bytes = from-times frame bytes (row-first tables)
+
+    frames-times : (fs : List (List ℕ)) → All fs → among k (rulesOver move fs) ≡ timesIn r k fs
+    unfolding rulesOver timesIn among
+    frames-times [] empty = refl
+    frames-times (f ∷ fs) (more bytes a) = rw (among-append, frame-times f bytes, frames-times fs a)
+
+    line-part : (line sums : List ℕ) → ByteText line → k < length sums → getD (lineSums move line sums) k 0 ≡ getD sums k 0 + partOf r k line
+    unfolding lineSums partOf stackRules
+    line-part line sums bytes h = go (lineOf line)
+      where
+        go : (l : Line) → getD (onLine l (λ stack count. addAll count (stackRules move (take stack line)) sums) sums) k 0
+            ≡ getD sums k 0 + onLine l (λ stack count. count * timesIn r k (framesOf (take stack line))) 0
+        go (Sound stack count) =
+            add-times count k (stackRules move (take stack line)) sums h ∙ rw (frames-times (framesOf (take stack line)) (frames-all stack line bytes))
+        go Broken = rw add-zero
+
+    lines-part : (ls : List (List ℕ)) → All ls → (sums : List ℕ) → k < length sums → getD (sumsOver move ls sums) k 0 ≡ getD sums k 0 + partsOf r k ls
+    unfolding sumsOver partsOf
+    lines-part [] empty sums h = rw add-zero
+    lines-part (l ∷ ls) (more bytes a) sums h = lines-part ls a (lineSums move l sums) (rw (line-length move l sums) h) ∙ rw (line-part l sums bytes h, add-assoc)
+
+    pub sum-is : (profile : List ℕ) → ByteText profile → getD (sumsOf move profile) k 0 ≡ total r k profile
+    unfolding linesSums
+    sum-is profile bytes =
+        lines-part (linesOf profile) (split-all lf [] empty profile bytes) (replicate mostRules 0) small ∙ rw (zero-at mostRules k, zero-add)

@@ -8,4 +8,3 @@ pub mod Parts
 pub mod Theory
 pub mod Promised
 pub mod Exact
-pub mod Cases

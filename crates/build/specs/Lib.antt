@@ -1,8 +1,7 @@
--- The definitions of the builder: Lent and Promise are what its promise says, Exact and Cases what is proved of it; Sets and Course describe the code.
+-- The definitions of the builder: Lent and Promise are what its promise says, Exact what is proved of it; Sets and Course describe the code.
 -- Assumes nothing.
 pub mod Lent
 pub mod Promise
 pub mod Exact
-pub mod Cases
 pub mod Sets
 pub mod Course

@@ -1,4 +1,4 @@
--- What the proofs of `walk` share, and the theorems: Demands, Whole and Cases. Assumes nothing.
+-- What the proofs of `walk` share, and the theorems: Demands and Whole. Assumes nothing.
 pub mod Laws
 pub mod Lists
 pub mod Occurrences
@@ -6,5 +6,4 @@ pub mod Longest
 pub mod Moves
 pub mod Follow
 pub mod Demands
-pub mod Cases
 pub mod Whole

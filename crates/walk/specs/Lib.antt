@@ -1,5 +1,4 @@
--- What the contracts of `walk` cite (Walk), and the theorems' statements (Demands, Whole, Cases). Assumes nothing.
+-- What the contracts of `walk` cite (Walk), and the theorems' statements (Demands, Whole). Assumes nothing.
 pub mod Walk
 pub mod Demands
 pub mod Whole
-pub mod Cases

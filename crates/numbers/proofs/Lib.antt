@@ -1,0 +1,6 @@
+-- The paper's numbers to check by, proved: what the books' bytes mean, laws of builds and of walks that are written out, and the one theorem. Assumes nothing.
+pub mod Books
+pub mod Builds
+pub mod Walks
+pub mod Tallies
+pub mod Cases

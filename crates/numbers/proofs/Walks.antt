@@ -1,0 +1,89 @@
+-- What a walk over the tables of a book gives: what its text comes to over the rules is left to be computed. Assumes nothing.
+use mathlib.Core.Path.{_≡_}
+use mathlib.Core.Bool.{Bool, true, false, _&&_, and-eq-true-iff}
+use mathlib.Core.List.{List, [], _∷_, reverse}
+use Prim.Native.Nat.{ℕ, zero, suc, _/_, _≤_}
+use native.Mathlib.Omega.{arith}
+use lib.Dec.{leb, ltb}
+use lib.ListN.{length}
+use borrow.Author.Tests.{leb-true, leb-false, ltb-true}
+use Rattle.rows.specs.Rows.{ByteText}
+use Rattle.meaning.specs.Rules.{count}
+use Rattle.meaning.specs.Standing.{held}
+use Rattle.meaning.specs.Falls.{fallsIn}
+use Rattle.meaning.specs.Tables.{Five, Tables}
+use Rattle.book.specs.Content.{Content}
+use Rattle.book.specs.Limits.{mostRules, mostBytes}
+use Rattle.book.specs.Meant.{rulesOf}
+use Rattle.walk.specs.Walk.{written, numberOf, valuesOf}
+use Rattle.walk.specs.Demands.{Call, answer, after, Over}
+use Rattle.walk.proofs.Occurrences.{occurrences}
+use Rattle.walk.proofs.Demands.{found, roomy, crowded}
+use Rattle.walk.proofs.Whole.{built}
+use Rattle.numbers.specs.Cases.{Gives, walk, Holds}
+use Rattle.numbers.proofs.Books.{Means}
+use Rattle.numbers.proofs.Builds.{built-of}
+
+-- a walk that is computed whole
+pub gives : {w : Call} {number : ℕ} {values buffer : List ℕ} → numberOf (answer w) ≡ number → valuesOf (answer w) ≡ values → after w ≡ buffer
+    → Gives w number values buffer
+gives n v b = record { answers = record { number-is = n; values-are = v }; leaves = b }
+
+-- ---- what is tested of a book and a text
+
+unfoldable pub isBytes : List ℕ → Bool
+isBytes [] = true
+isBytes (c ∷ t) = ltb c 256 && isBytes t
+
+bytes-of : (t : List ℕ) → isBytes t ≡ true → ByteText t
+unfolding isBytes
+bytes-of [] x i = omega arith
+bytes-of (c ∷ t) x zero = ltb-true c 256 (and-eq-true-iff (ltb c 256) (isBytes t) .0 x .0)
+bytes-of (c ∷ t) x (suc i) = bytes-of t (and-eq-true-iff (ltb c 256) (isBytes t) .0 x .1) i
+
+abbrev pub isSmall : Content → List ℕ → Bool
+isSmall a text = leb (count (rulesOf a)) mostRules && (isBytes text && leb (length text) mostBytes)
+
+pub record Small (a : Content) (text : List ℕ) : Type 0 where
+  pub few : count (rulesOf a) ≤ mostRules
+  pub bytes : ByteText text
+  pub short : length text ≤ mostBytes
+
+pub small : (a : Content) (text : List ℕ) → isSmall a text ≡ true → Small a text
+small a text e =
+    let (few, rest) = and-eq-true-iff (leb (count (rulesOf a)) mostRules) (isBytes text && leb (length text) mostBytes) .0 e in
+    let (bytes, short) = and-eq-true-iff (isBytes text) (leb (length text) mostBytes) .0 rest in
+    record { few = leb-true _ _ few; bytes = bytes-of text bytes; short = leb-true _ _ short }
+
+-- ---- over the tables of a book
+
+module _ (a : Content) (text : List ℕ) where
+  -- two numbers a report
+  abbrev many : ℕ
+  many = length (occurrences (rulesOf a) text) / 2
+
+  over : Small a text → (reports : List ℕ) {b : Five} {n : ℕ} → Tables (rulesOf a) b n → Over (rulesOf a) (record { tables = b; n = n; text = text; reports = reports })
+  over x reports t = record { tables = t; few = x .few; bytes = x .bytes }
+
+  so-many : (x : Small a text) (reports : List ℕ) {b : Five} {n : ℕ} (t : Tables (rulesOf a) b n) → found (over x reports t) .m ≡ many
+  so-many x reports t = omega (arith, found (over x reports t) .long)
+
+module _ {a : Content} {bytes : List ℕ} (e : Means bytes a) {text : List ℕ} (x : isSmall a text ≡ true) {reports : List ℕ} where
+  -- with room for the reports
+  pub fitting : leb (many a text) (length reports / 2) ≡ true
+      → Holds (walk bytes text reports 0 (many a text ∷ fallsIn (rulesOf a) (reverse text) ∷ held (rulesOf a) (reverse text) ∷ []) (written (occurrences (rulesOf a) text) reports))
+  fitting l old b y p z =
+      let (t, lends) = built (built-of (e .meant) p) z in
+      let s = small a text x in
+      let q = so-many a text s reports t in
+      let (r, d) = roomy (over a text s reports t) (s .short) lends (omega (arith, leb-true (many a text) (length reports / 2) l)) in
+      gives (rw r) (rw (r, q)) d
+
+  -- with less
+  pub lacking : leb (many a text) (length reports / 2) ≡ false → Holds (walk bytes text reports 14 (many a text ∷ []) reports)
+  lacking l old b y p z =
+      let (t, lends) = built (built-of (e .meant) p) z in
+      let s = small a text x in
+      let q = so-many a text s reports t in
+      let (r, d) = crowded (over a text s reports t) (s .short) lends (omega (arith, leb-false (many a text) (length reports / 2) l)) in
+      gives (rw r) (rw (r, q)) d

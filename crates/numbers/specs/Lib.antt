@@ -1,0 +1,3 @@
+-- The paper's numbers to check by: the books, the texts and the one table of cases. Assumes nothing.
+pub mod Inputs
+pub mod Cases

@@ -1,0 +1,2 @@
+-- The laws of the inputs. Assumes nothing.
+pub mod Laws

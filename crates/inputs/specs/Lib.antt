@@ -1,0 +1,2 @@
+-- What the contracts of `inputs` cite. Assumes nothing.
+pub mod Inputs

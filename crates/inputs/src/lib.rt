@@ -1,0 +1,120 @@
+// What the programs for people share: reading a book and a text, each whole, and the lines that both write.
+
+use libc::STDIN_FILENO;
+use libc::STDOUT_FILENO;
+ghost use mathlib.Core.Path.{_≡_};
+ghost use lib.Dec.{eqb};
+ghost use lib.ListN.{length};
+ghost use Rattle.inputs.specs.Inputs.{Fits, BothFit};
+
+// The room for a book and for a text: one byte more than each may have, so that an input which fills it is too long.
+pub const BOOK_ROOM: usize = 16385;
+
+pub const TEXT_ROOM: usize = 32769;
+
+// The rows that a program lends, and the goto entries that these are.
+pub const ROWS: usize = 120;
+
+pub const ENTRIES: usize = 256 * ROWS;
+
+// What reading an input came to: all its bytes, so many; or it cannot be read or is too long.
+enum Input {
+    Whole(usize),
+    Refused,
+}
+
+// What reading both came to: all the bytes of each; or one of them is refused.
+pub enum Both {
+    Whole { book: usize, text: usize },
+    Refused,
+}
+
+// Reads the book and the text, and says so where one of them is refused.
+pub fn read_both(book: &mut [u8; BOOK_ROOM], text: &mut [u8; TEXT_ROOM]) -> Both
+    ensures { λ r. ⌜ BothFit r (length (now (book .exit))) (length (now (text .exit))) ⌝ }
+{
+    let Input::Whole(b) = read_book(book) else {
+        refuse_input();
+        return Both::Refused;
+    };
+    let Input::Whole(t) = read_text(text) else {
+        refuse_input();
+        return Both::Refused;
+    };
+    Both::Whole { book: b, text: t }
+}
+
+// Reads the file `book.bin` of the working folder.
+fn read_book(room: &mut [u8; BOOK_ROOM]) -> Input
+    ensures { λ r. ⌜ Fits r (length (now (room .exit))) ⌝ }
+{
+    let file = os::open_read(b"book.bin");
+    if file < 0 {
+        return Input::Refused;
+    }
+    let book = read_all(file, room);
+    libc::close(file);
+    book
+}
+
+// Reads standard input.
+fn read_text(room: &mut [u8; TEXT_ROOM]) -> Input
+    ensures { λ r. ⌜ Fits r (length (now (room .exit))) ⌝ }
+{
+    read_all(STDIN_FILENO, room)
+}
+
+// Reads to the end of the input, which has to come before the room is full.
+fn read_all(file: i32, room: &mut [u8]) -> Input
+    ensures { λ r. ⌜ Fits r (length (now (room .exit))) ⌝ }
+{
+    let mut done = 0;
+    while done < room.len() {
+        let got = libc::read(file, &mut room[done..]);
+        if got < 0 {
+            return Input::Refused;
+        }
+        let more = io::count(got, &room[done..]);
+        if more == 0 {
+            return Input::Whole(done);
+        }
+        done += more;
+    }
+    Input::Refused
+}
+
+// Writes a label and a number.
+pub fn put(label: &[u8], n: u64) {
+    io::write_all(STDOUT_FILENO, label);
+    io::print_decimal(STDOUT_FILENO, n);
+}
+
+// Ends a line.
+pub fn end_line() {
+    io::write_all(STDOUT_FILENO, b"\n");
+}
+
+// The line of a refusal, by the paper's number and value.
+pub fn refuse(number: usize, value: usize) {
+    put(b"refused ", number as u64);
+    put(b" ", value as u64);
+    end_line();
+}
+
+// The line of a build, by its number and value: the rows used, or a refusal. Answers whether it was accepted.
+pub fn say_built(number: usize, value: usize) -> bool
+    ensures { λ r. ⌜ r ≡ eqb number 0 ⌝ }
+{
+    if number == 0 {
+        put(b"rows ", value as u64);
+        end_line();
+    } else {
+        refuse(number, value);
+    }
+    number == 0
+}
+
+// The line of an input that cannot be read or is too long.
+fn refuse_input() {
+    io::write_all(STDOUT_FILENO, b"refused input\n");
+}

@@ -1,5 +1,4 @@
 -- What a tally answers and leaves: over any tables, over the tables of rules, and over the buffers that a build left. Assumes nothing.
-use mathlib.Core.Bool.{true}
 use mathlib.Core.List.{List, _++_}
 use mathlib.Core.Logic.{_⊎_, inl, inr, _≢_}
 use mathlib.Core.Path.{_≡_, refl, sym, ap, _∙_}
@@ -14,20 +13,19 @@ use Rattle.meaning.specs.Tables.{Five}
 use Rattle.meaning.proofs.Looks.{row-first}
 use Rattle.book.specs.Limits.{mostRules, mostBytes}
 use Rattle.book.specs.Format.{Meaning, meaningOf}
-use Rattle.book.specs.Meant.{rulesOf}
 use Rattle.book.proofs.Sizes.{lawful}
 use Rattle.book.proofs.Numbers.{numbered}
 use Rattle.build.specs.Promise.{lent, Answers as BuildAnswers, builds, refuses as refuses-build}
-use Rattle.walk.specs.Walk.{written, hasRows}
+use Rattle.walk.specs.Walk.{written}
 use Rattle.walk.proofs.Laws.{rows-lent, no-rows, few-lent}
 use Rattle.walk.proofs.Whole.{built}
 use Rattle.tally.specs.declared.Pass.{Pass}
 use Rattle.tally.specs.declared.Pass.the-variants.{Through, Ends}
 use Rattle.tally.specs.declared.Tallied.{Tallied}
 use Rattle.tally.specs.declared.Tallied.the-variants.{Accepted, TooLong, BadRows, FewSums, BadLine, Damaged}
-use Rattle.tally.specs.Lines.{linesOf, checkOf}
+use Rattle.tally.specs.Lines.{checkOf}
 use Rattle.tally.specs.Tally.{linesPass, sumsOf, moveBy, answerOf, bufferOf, numberOf, valueOf}
-use Rattle.tally.specs.Totals.{Call, answer, after, Answers, AllSound, Ready, Refusals, Refuses, total, Over, Summed, Sums, Tells, Tallies}
+use Rattle.tally.specs.Totals.{Call, answer, after, Answers, Ready, Refusals, Refuses, total, Over, Summed, Sums, Tells, Tallies}
 use Rattle.tally.proofs.Walks.{lines-length}
 use Rattle.tally.proofs.Answers.{tallied}
 use Rattle.tally.proofs.Times.{occurrences}

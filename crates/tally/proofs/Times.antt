@@ -15,7 +15,7 @@ use Rattle.sets.specs.Sets.{has, keep, those}
 use Rattle.meaning.specs.Rules.{Rules, count}
 use Rattle.meaning.specs.Standing.{out}
 use Rattle.book.specs.Limits.{mostRules}
-use Rattle.walk.specs.Demands.{Occurs, Lists}
+use Rattle.walk.specs.Demands.{Lists}
 use Rattle.walk.proofs.Lists.{lists-iff, lists-none, lists-cons}
 use Rattle.walk.proofs.Occurrences.{Ending, Next, has-out, ending-cons, ending-occurs}
 use Rattle.tally.specs.Tally.{addAll}

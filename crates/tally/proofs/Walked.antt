@@ -18,7 +18,7 @@ use Rattle.walk.specs.declared.Counted.the-variants.{Read, Stopped}
 use Rattle.walk.specs.declared.Moved.{Moved}
 use Rattle.walk.specs.declared.Moved.the-variants.{Reached, Lost}
 use Rattle.walk.specs.declared.Walked.the-variants.{Accepted, NoRoom}
-use Rattle.walk.specs.Walk.{Lent, Looked, Go, Fall, Wrong, lookAt, onLook, moveIn, moveFrom, onMove, reported, runFrom, runOf, reportsFrom, reportsOf, answerOf}
+use Rattle.walk.specs.Walk.{Lent, Looked, Go, Fall, Wrong, lookAt, onLook, moveIn, moveFrom, onMove, reported, runFrom, runOf, reportsFrom, answerOf}
 use Rattle.walk.proofs.Laws.{Within, move-within, long-enough, rows-lent, walked}
 use Rattle.tally.specs.declared.Pass.{Pass}
 use Rattle.tally.specs.declared.Pass.the-variants.{Through, Ends}

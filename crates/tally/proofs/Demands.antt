@@ -30,7 +30,7 @@ use Rattle.tally.proofs.Walks.{lines-length}
 use Rattle.tally.proofs.Answers.{tallied}
 use Rattle.tally.proofs.Times.{occurrences}
 use Rattle.tally.proofs.Totals.{lines-through, sum-is}
-use Rattle.tally.proofs.Written.{checked, broken-at}
+use Rattle.tally.proofs.First.{checked, broken-at}
 
 -- ---- over any tables
 

@@ -7,17 +7,17 @@ use mathlib.Core.Path.{_≡_, refl, ap, _∙_}
 use native.Mathlib.Nat.{zero-add, eq-or-lt-of-le}
 use native.Mathlib.Numerals.{add-one}
 use native.Mathlib.Omega.{arith}
-use borrow.Author.Tests.{eq-eqb, ne-eqb, lt-ltb, le-leb, lt-leb, ltb-false}
-use lib.Dec.{ltb, leb, eqb}
-use lib.ListN.{length, getD, take, drop, length-take, length-drop, drop-of-length-le}
+use borrow.Author.Tests.{eq-eqb, ne-eqb, lt-ltb, le-leb, lt-leb}
+use lib.Dec.{leb, eqb}
+use lib.ListN.{length, getD, take, drop, length-append, length-take, length-drop, drop-of-length-le}
 use lib.Seq.{drop-cons, drop-drop, take-all}
-use Rattle.tally.specs.declared.Count.{Count}
 use Rattle.tally.specs.declared.Count.the-variants.{Is, Not}
 use Rattle.tally.specs.declared.Line.{Line}
 use Rattle.tally.specs.declared.Line.the-variants.{Sound, Broken}
 use Rattle.tally.specs.declared.Pass.{Pass}
 use Rattle.tally.specs.declared.Pass.the-variants.{Through}
-use Rattle.tally.specs.Lines.{lf, space, mostCount, joined, split, linesOf, upTo, onPass, passOver, numberFrom, limited, countOf, lastFrom, lastOf, counted, lineOf}
+use Rattle.tally.specs.Lines.{lf, space, mostCount, joined, split, linesOf, upTo, onPass, passOver, numberFrom, limited, lastFrom, lineOf}
+use Rattle.tally.proofs.Written.{LineTells, line-tells}
 
 -- ---- the first mark
 
@@ -75,30 +75,6 @@ module _ (s : List ℕ) (at so : ℕ) where
   unfolding numberFrom
   number-more h l g = rw (drop-cons s at 0, le-leb _ _ l, le-leb _ _ g, add-one at)
 
--- a count is at most the limit
-abbrev Small : Count → Type 0
-Small (Is k) = k ≤ mostCount
-Small Not = Unit {0}
-
-limited-small : (k : Count) → Small (limited k)
-limited-small Not = tt
-limited-small (Is k) = go (ltb mostCount k) refl
-  where
-    go : (b : Bool) → ltb mostCount k ≡ b → Small (cond b Not (Is k))
-    go true e = tt
-    go false e = ltb-false _ _ e
-
-count-small : (s : List ℕ) → Small (countOf s)
-unfolding countOf
-count-small s = go (eqb (length s) 0) (ltb 10 (length s)) (eqb (getD s 0 0) 48) (eqb (length s) 1)
-  where
-    go : (a b d e : Bool) → Small (cond a Not (cond b Not (cond d (cond e (Is 0) Not) (limited (numberFrom 0 s)))))
-    go true b d e = tt
-    go false true d e = tt
-    go false false true true = omega arith
-    go false false true false = tt
-    go false false false e = limited-small (numberFrom 0 s)
-
 -- ---- a line
 
 -- a stack is a part of its line, and its count a small one
@@ -106,29 +82,12 @@ abbrev pub Right : List ℕ → Line → Type 0
 Right line (Sound stack count) = (stack ≤ length line) × (count ≤ mostCount)
 Right line Broken = Unit {0}
 
-last-le : (mark : ℕ) (s : List ℕ) (at last : ℕ) → last ≤ at + length s → lastFrom mark at last s ≤ at + length s
-unfolding lastFrom
-last-le mark [] at last h = h
-last-le mark (c ∷ s) at last h = go (eqb c mark) (λ k g. last-le mark s (at + 1) k g)
-  where
-    go : (b : Bool) → ((k : ℕ) → k ≤ at + 1 + length s → lastFrom mark (at + 1) k s ≤ at + 1 + length s) → lastFrom mark (at + 1) (cond b at last) s ≤ at + suc (length s)
-    go true r = omega (arith, r at (omega arith))
-    go false r = omega (arith, r last (omega arith))
-
-counted-right : (line : List ℕ) (stack : ℕ) (k : Count) → stack ≤ length line → Small k → Right line (counted stack k)
-counted-right line stack (Is k) h s = (h, s)
-counted-right line stack Not h s = tt
+tells-right : (line : List ℕ) (l : Line) → LineTells line l → Right line l
+tells-right line (Sound n k) (stack, digits, x, e) = (omega (arith, ap length (x .whole), length-append stack (space ∷ digits)), x .count .small)
+tells-right line Broken x = tt
 
 pub line-right : (line : List ℕ) → Right line (lineOf line)
-unfolding lineOf
-line-right line = go (eqb (lastOf space line) 0) (eqb (lastOf space line) (length line))
-  where
-    go : (a b : Bool) → Right line (cond a Broken (cond b Broken (counted (lastOf space line) (countOf (drop (lastOf space line + 1) line)))))
-    go true b = tt
-    go false true = tt
-    go false false =
-        counted-right line (lastOf space line) (countOf (drop (lastOf space line + 1) line)) (omega (arith, last-le space line 0 (length line) (omega arith)))
-        (count-small (drop (lastOf space line + 1) line))
+line-right line = tells-right line (lineOf line) (line-tells line)
 
 -- what a line r that is q tells
 pub line-is : (line : List ℕ) {r q : Line} → r ≡ lineOf line → r ≡ q → Right line q × (lineOf line ≡ q)

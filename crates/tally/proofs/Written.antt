@@ -1,4 +1,4 @@
--- The functions of `Lines` compute what `Written` says in plain words, and the first pass ends at the first line that breaks the rules. Assumes nothing.
+-- A count and a line are what `Written` says in plain words. Assumes nothing.
 use Prim.Native.Nat.{ℕ, zero, suc, _+_, _-_, _*_, _≤_, _<_}
 use mathlib.Core.Bool.{Bool, true, false, cond, _&&_}
 use mathlib.Core.List.{List, [], _∷_, _++_}
@@ -14,115 +14,8 @@ use Rattle.tally.specs.declared.Count.{Count}
 use Rattle.tally.specs.declared.Count.the-variants.{Is, Not}
 use Rattle.tally.specs.declared.Line.{Line}
 use Rattle.tally.specs.declared.Line.the-variants.{Sound, Broken}
-use Rattle.tally.specs.declared.Pass.the-variants.{Through, Ends}
-use Rattle.tally.specs.Lines.{lf, space, semicolon, mostCount, joined, split, linesOf, framesOf, lastFrom, lastOf, passOver, numberFrom, limited, countOf, counted, lineOf, onLine, lineCheck, checkOf}
-use Rattle.tally.specs.Written.{join, Without, LastSome, Lines, Frames, decimal, Writes, CountIs, IsLine, LineIs}
-use Rattle.tally.specs.Totals.{AllSound, startOf, FirstBroken}
-
--- ---- pieces
-
-some-empty : (p : List ℕ) (ps : List (List ℕ)) → LastSome (p ∷ ps) → LastSome ([] ∷ p ∷ ps)
-some-empty p ps s zero h = absurd (omega arith)
-some-empty p ps s (suc i) h = s i (omega arith)
-
-some-joined : (c : ℕ) (ps : List (List ℕ)) → LastSome ps → LastSome (joined c ps)
-some-joined c [] s zero h = omega arith
-some-joined c [] s (suc i) h = absurd (omega arith)
-some-joined c (p ∷ ps) s zero h = omega arith
-some-joined c (p ∷ ps) s (suc i) h = s (suc i) h
-
-joined-le : (c : ℕ) (ps : List (List ℕ)) → length ps ≤ length (joined c ps)
-joined-le c [] = omega arith
-joined-le c (p ∷ ps) = omega arith
-
-module _ (mark : ℕ) where
-  -- a byte in front of the first piece stands in front of all
-  join-joined : (c : ℕ) (ps : List (List ℕ)) → join mark (joined c ps) ≡ c ∷ join mark ps
-  unfolding join
-  join-joined c [] = refl
-  join-joined c (p ∷ []) = refl
-  join-joined c (p ∷ q ∷ ps) = refl
-
-  without-joined : (c : ℕ) (ps : List (List ℕ)) → c ≢ mark → Without mark ps → Without mark (joined c ps)
-  without-joined c [] n w zero zero h g = n
-  without-joined c [] n w zero (suc j) h g = absurd (omega arith)
-  without-joined c [] n w (suc i) j h g = absurd (omega arith)
-  without-joined c (p ∷ ps) n w zero zero h g = n
-  without-joined c (p ∷ ps) n w zero (suc j) h g = w zero j h (omega arith)
-  without-joined c (p ∷ ps) n w (suc i) j h g = w (suc i) j h g
-
-  without-empty : (ps : List (List ℕ)) → Without mark ps → Without mark ([] ∷ ps)
-  without-empty ps w zero j h g = absurd (omega arith)
-  without-empty ps w (suc i) j h g = w i j (omega arith) g
-
-  module _ (none : List (List ℕ)) where
-    split-without : Without mark none → (text : List ℕ) → Without mark (split mark none text)
-    unfolding split
-    split-without w [] = w
-    split-without w (c ∷ text) = go (eqb c mark) (split mark none text) refl (split-without w text)
-      where
-        go : (b : Bool) (ps : List (List ℕ)) → eqb c mark ≡ b → Without mark ps → Without mark (cond b ([] ∷ ps) (joined c ps))
-        go true ps e r = without-empty ps r
-        go false ps e r = without-joined c ps (eqb-false _ _ e) r
-
-    -- only an empty text may have no piece
-    split-none : (text : List ℕ) → split mark none text ≡ [] → (text ≡ []) × (none ≡ [])
-    unfolding split
-    split-none [] e = (refl, e)
-    split-none (c ∷ text) e = go (eqb c mark) (split mark none text) (ap length e)
-      where
-        go : (b : Bool) (ps : List (List ℕ)) → length (cond b ([] ∷ ps) (joined c ps)) ≡ 0 → (c ∷ text ≡ []) × (none ≡ [])
-        go true ps g = absurd (omega arith)
-        go false [] g = absurd (omega arith)
-        go false (p ∷ ps) g = absurd (omega arith)
-
-    -- The pieces make the text. Where an empty rest has no piece, a mark ends the last one, or that is not empty.
-    abbrev Whole : List (List ℕ) → List ℕ → Type 0
-    Whole ps text = ((join mark ps ≡ text) × (none ≡ [] → LastSome ps)) ⊎ (none ≡ []) × (join mark ps ++ mark ∷ [] ≡ text) × (1 ≤ length ps)
-
-    whole-cons : (c : ℕ) (text : List ℕ) (ps qs : List (List ℕ)) → join mark qs ≡ c ∷ join mark ps → (LastSome ps → LastSome qs) → length ps ≤ length qs
-        → Whole ps text → Whole qs (c ∷ text)
-    whole-cons c text ps qs e s l (inl h) = inl (rw (e, h .0), λ z. s (h .1 z))
-    whole-cons c text ps qs e s l (inr h) = inr (h .0, rw (e, h .1), omega (arith, h .2))
-
-    split-whole : join mark none ≡ [] → (text : List ℕ) → Whole (split mark none text) text
-    unfolding split join
-    split-whole n [] = inl (n, λ z. rw z (λ i h. absurd (omega arith)))
-    split-whole n (c ∷ text) = go (eqb c mark) (split mark none text) refl refl (split-whole n text)
-      where
-        go : (b : Bool) (ps : List (List ℕ)) → eqb c mark ≡ b → split mark none text ≡ ps → Whole ps text
-            → Whole (cond b ([] ∷ ps) (joined c ps)) (c ∷ text)
-        go true [] e s r = let z = split-none text s in inr (z .1, rw (eqb-true c mark e, z .0), omega arith)
-        go true (p ∷ ps) e s r = whole-cons c text (p ∷ ps) ([] ∷ p ∷ ps) (rw (eqb-true c mark e)) (some-empty p ps) (omega arith) r
-        go false ps e s r = whole-cons c text ps (joined c ps) (join-joined c ps) (some-joined c ps) (joined-le c ps) r
-
-pub lines : (profile : List ℕ) → Lines profile
-unfolding join
-lines profile = record { whole = go (split-whole lf [] refl profile); without = split-without lf [] (λ i j h g. absurd (omega arith)) profile }
-  where
-    go : Whole lf [] (linesOf profile) profile
-        → ((join lf (linesOf profile) ≡ profile) × LastSome (linesOf profile)) ⊎ (join lf (linesOf profile) ++ lf ∷ [] ≡ profile) × (1 ≤ length (linesOf profile))
-    go (inl e) = inl (e .0, e .1 refl)
-    go (inr e) = inr (e .1, e .2)
-
-no-pieces : {A : Type 0} → _≡_ {A = List (List ℕ)} ([] ∷ []) [] → A
-no-pieces e = let z : _≡_ {A = ℕ} 1 0 = ap length e in absurd (omega arith)
-
-pub frames : (stack : List ℕ) → Frames stack
-unfolding join
-frames stack = record {
-  whole = go (split-whole semicolon ([] ∷ []) refl stack);
-  some = some (framesOf stack) refl;
-  without = split-without semicolon ([] ∷ []) (without-empty semicolon [] (λ i j h g. absurd (omega arith))) stack;
-}
-  where
-    go : Whole semicolon ([] ∷ []) (framesOf stack) stack → join semicolon (framesOf stack) ≡ stack
-    go (inl e) = e .0
-    go (inr e) = no-pieces (e .0)
-
-    some : (fs : List (List ℕ)) → framesOf stack ≡ fs → 1 ≤ length fs
-    some [] e = no-pieces (split-none semicolon ([] ∷ []) stack e .1)
-    some (f ∷ fs) e = omega arith
+use Rattle.tally.specs.Lines.{space, mostCount, lastFrom, lastOf, numberFrom, limited, countOf, counted, lineOf}
+use Rattle.tally.specs.Written.{decimal, Writes, CountIs, IsLine, LineIs}
 
 -- ---- a count
 
@@ -251,7 +144,7 @@ module _ (mark : ℕ) where
   last-seam (c ∷ p) s at last n = last-seam p s (at + 1) (cond (eqb c mark) at last) n ∙ omega arith
 
 -- what a line tells
-abbrev LineTells : List ℕ → Line → Type 0
+abbrev pub LineTells : List ℕ → Line → Type 0
 LineTells line (Sound n k) = (stack digits : List ℕ) × IsLine line stack digits k × (length stack ≡ n)
 LineTells line Broken = Unit {0}
 
@@ -262,7 +155,7 @@ counted-tells line n h l e (Is k) w =
     let t = length-take-le n line (omega arith) in
     (take n line, drop (n + 1) line, record { whole = rw add-one (rw e at (split-at line n 0 l)); some = omega arith; count = w }, t)
 
-line-tells : (line : List ℕ) → LineTells line (lineOf line)
+pub line-tells : (line : List ℕ) → LineTells line (lineOf line)
 unfolding lineOf
 line-tells line = go (eqb (lastOf space line) 0) (eqb (lastOf space line) (length line)) refl refl (last-here space line 0 (length line))
   where
@@ -295,34 +188,3 @@ line-from stack digits k h w =
 
 pub line-is-written : LineIs
 line-is-written line n k = (λ e. rw e at (line-tells line), λ s. rw (s .2 .whole, ← (s .3)) (line-from (s .0) (s .1) k (s .2 .some) (s .2 .count)))
-
--- ---- the first pass
-
-line-through : (at : ℕ) (line : List ℕ) → lineOf line ≢ Broken → lineCheck at line ≡ Through
-unfolding lineCheck
-line-through at line h = go (lineOf line) h
-  where
-    go : (l : Line) → l ≢ Broken → onLine l (λ stack count. Through) (Ends at) ≡ Through
-    go (Sound stack count) h = refl
-    go Broken h = absurd (h refl)
-
-all-through : (ls : List (List ℕ)) (at : ℕ) → AllSound ls → passOver lineCheck at ls ≡ Through
-unfolding passOver
-all-through [] at h = refl
-all-through (l ∷ ls) at h = rw (line-through at l (h 0 (omega arith))) (all-through ls (at + length l + 1) (λ i g. h (suc i) (omega arith)))
-
-first-ends : (ls : List (List ℕ)) (at i : ℕ) → FirstBroken ls i → passOver lineCheck at ls ≡ Ends (startOf at ls i)
-unfolding passOver startOf lineCheck
-first-ends [] at i f = absurd (omega (arith, f .below))
-first-ends (l ∷ ls) at zero f = rw (f .broken)
-first-ends (l ∷ ls) at (suc i) f =
-    rw (line-through at l (f .before 0 (omega arith)))
-    (first-ends ls (at + length l + 1) i (record { below = omega (arith, f .below); broken = f .broken; before = λ j h. f .before (suc j) (omega arith) }))
-
-pub checked : (profile : List ℕ) → AllSound (linesOf profile) → checkOf profile ≡ Through
-unfolding checkOf
-checked profile h = all-through (linesOf profile) 0 h
-
-pub broken-at : (profile : List ℕ) (i : ℕ) → FirstBroken (linesOf profile) i → checkOf profile ≡ Ends (startOf 0 (linesOf profile) i)
-unfolding checkOf
-broken-at profile i f = first-ends (linesOf profile) 0 i f

@@ -13,7 +13,8 @@ use Rattle.book.specs.Content.{member, table}
 use Rattle.walk.specs.Walk.{lookAt, moveIn, moveFrom, reported, runFrom, reportsFrom, written}
 use Rattle.walk.proofs.Occurrences.{occurrencesFrom}
 use Rattle.tally.specs.Lines.{split, linesOf, lastFrom, numberFrom, countOf, lineOf}
-use Rattle.tally.specs.Totals.{startOf, FirstBroken, timesFrom, timesIn, partOf, partsOf}
+use Rattle.tally.specs.Totals.{FirstBroken, timesFrom, timesIn, partOf, partsOf}
+use Rattle.tally.specs.Written.{startOf}
 use Rattle.numbers.specs.Inputs.{aab1-ab-3, a-01}
 use Rattle.numbers.specs.Cases.{cases, All, none, also}
 use Rattle.numbers.proofs.Books.{empty-refused, means-A, means-AA, means-X, means-Y, A-right, X-right, Y-right}

@@ -21,7 +21,8 @@ use Rattle.tally.specs.declared.Tallied.{Tallied}
 use Rattle.tally.specs.declared.Tallied.the-variants.{Accepted, TooLong, BadRows, FewSums, BadLine, Damaged}
 use Rattle.tally.specs.Lines.{linesOf, lineOf, onLine}
 use Rattle.tally.specs.Tally.{moveBy, sumsOf, bufferOf}
-use Rattle.tally.specs.Totals.{Call, answer, after, AllSound, startOf, FirstBroken, Ready, total}
+use Rattle.tally.specs.Totals.{Call, answer, after, AllSound, FirstBroken, Ready, total}
+use Rattle.tally.specs.Written.{startOf}
 use Rattle.tally.proofs.Walks.{lines-length}
 use Rattle.tally.proofs.Demands.{refuses, sums}
 use Rattle.numbers.specs.Cases.{tally, refusal, Holds}

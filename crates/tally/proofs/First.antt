@@ -9,7 +9,8 @@ use Rattle.tally.specs.declared.Line.{Line}
 use Rattle.tally.specs.declared.Line.the-variants.{Sound, Broken}
 use Rattle.tally.specs.declared.Pass.the-variants.{Through, Ends}
 use Rattle.tally.specs.Lines.{linesOf, passOver, lineOf, onLine, lineCheck, checkOf}
-use Rattle.tally.specs.Totals.{AllSound, startOf, FirstBroken}
+use Rattle.tally.specs.Totals.{AllSound, FirstBroken}
+use Rattle.tally.specs.Written.{startOf}
 
 line-through : (at : ℕ) (line : List ℕ) → lineOf line ≢ Broken → lineCheck at line ≡ Through
 unfolding lineCheck

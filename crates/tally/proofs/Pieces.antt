@@ -1,15 +1,17 @@
 -- Lines and frames are the pieces that `Written` says in plain words. Assumes nothing.
-use Prim.Native.Nat.{ℕ, zero, suc, _≤_}
+use Prim.Native.Nat.{ℕ, zero, suc, _+_, _≤_, _<_}
 use mathlib.Core.Bool.{Bool, true, false, cond}
-use mathlib.Core.List.{List, [], _∷_, _++_}
+use mathlib.Core.List.{List, [], _∷_, _++_, append-nil, append-assoc}
 use mathlib.Core.Logic.{_⊎_, inl, inr, _≢_}
-use mathlib.Core.Path.{_≡_, refl, ap}
+use mathlib.Core.Path.{_≡_, refl, ap, _∙_}
+use native.Mathlib.Nat.{add-zero}
 use native.Mathlib.Omega.{arith}
 use borrow.Author.Tests.{eqb-true, eqb-false}
 use lib.Dec.{eqb}
-use lib.ListN.{length}
+use lib.ListN.{length, getD, take, drop}
+use lib.Seq.{take-append-seam, drop-append-add}
 use Rattle.tally.specs.Lines.{lf, semicolon, joined, split, linesOf, framesOf}
-use Rattle.tally.specs.Written.{join, Without, LastSome, Lines, Frames}
+use Rattle.tally.specs.Written.{join, Without, LastSome, startOf, Lines, Frames}
 
 some-empty : (p : List ℕ) (ps : List (List ℕ)) → LastSome (p ∷ ps) → LastSome ([] ∷ p ∷ ps)
 some-empty p ps s zero h = absurd (omega arith)
@@ -86,10 +88,44 @@ module _ (mark : ℕ) where
         go true (p ∷ ps) e s r = whole-cons c text (p ∷ ps) ([] ∷ p ∷ ps) (rw (eqb-true c mark e)) (some-empty p ps) (omega arith) r
         go false ps e s r = whole-cons c text ps (joined c ps) (join-joined c ps) (some-joined c ps) (joined-le c ps) r
 
+-- ---- where a piece starts
+
+start-from : (ps : List (List ℕ)) (at i : ℕ) → startOf at ps i ≡ at + startOf 0 ps i
+unfolding startOf
+start-from [] at i = rw add-zero
+start-from (p ∷ ps) at zero = rw add-zero
+start-from (p ∷ ps) at (suc i) = start-from ps (at + length p + 1) i ∙ omega (arith, start-from ps (0 + length p + 1) i)
+
+-- after the first piece and its mark
+start-next : (mark : ℕ) (p rest : List ℕ) (ps : List (List ℕ)) (i : ℕ) → drop (startOf 0 (p ∷ ps) (suc i)) (p ++ mark ∷ rest) ≡ drop (startOf 0 ps i) rest
+unfolding startOf
+start-next mark p rest ps i =
+    let q : startOf (0 + length p + 1) ps i ≡ length p + suc (startOf 0 ps i) = omega (arith, start-from ps (0 + length p + 1) i) in
+    rw q (drop-append-add p (mark ∷ rest) (suc (startOf 0 ps i)))
+
+start-at : (mark : ℕ) (tail : List ℕ) (ps : List (List ℕ)) (i : ℕ) → i < length ps
+    → take (length (getD ps i [])) (drop (startOf 0 ps i) (join mark ps ++ tail)) ≡ getD ps i []
+unfolding join startOf
+start-at mark tail [] i h = absurd (omega arith)
+start-at mark tail (p ∷ []) zero h = take-append-seam p tail
+start-at mark tail (p ∷ []) (suc i) h = absurd (omega arith)
+start-at mark tail (p ∷ q ∷ ps) zero h = rw (append-assoc p (mark ∷ join mark (q ∷ ps)) tail) (take-append-seam p _)
+start-at mark tail (p ∷ q ∷ ps) (suc i) h =
+    rw (append-assoc p (mark ∷ join mark (q ∷ ps)) tail, start-next mark p (join mark (q ∷ ps) ++ tail) (q ∷ ps) i) (start-at mark tail (q ∷ ps) i (omega arith))
+
 pub lines : (profile : List ℕ) → Lines profile
 unfolding join
-lines profile = record { whole = go (split-whole lf [] refl profile); without = split-without lf [] (λ i j h g. absurd (omega arith)) profile }
+lines profile = record {
+  whole = go (split-whole lf [] refl profile);
+  without = split-without lf [] (λ i j h g. absurd (omega arith)) profile;
+  starts = λ i h. at i h (split-whole lf [] refl profile);
+}
   where
+    at : (i : ℕ) → i < length (linesOf profile) → Whole lf [] (linesOf profile) profile
+        → take (length (getD (linesOf profile) i [])) (drop (startOf 0 (linesOf profile) i) profile) ≡ getD (linesOf profile) i []
+    at i h (inl e) = rw (append-nil, e .0) at (start-at lf [] (linesOf profile) i h)
+    at i h (inr e) = rw (e .1) at (start-at lf (lf ∷ []) (linesOf profile) i h)
+
     go : Whole lf [] (linesOf profile) profile
         → ((join lf (linesOf profile) ≡ profile) × LastSome (linesOf profile)) ⊎ (join lf (linesOf profile) ++ lf ∷ [] ≡ profile) × (1 ≤ length (linesOf profile))
     go (inl e) = inl (e .0, e .1 refl)

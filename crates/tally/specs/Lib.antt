@@ -1,5 +1,5 @@
 -- What the contracts of `tally` cite (Lines, Tally), and the theorems' statements (Written, Totals). Assumes nothing.
 pub mod Lines
-pub mod Tally
 pub mod Written
+pub mod Tally
 pub mod Totals

@@ -3,7 +3,7 @@ use mathlib.Core.Bool.{cond}
 use mathlib.Core.List.{List, [], _∷_}
 use mathlib.Core.Logic.{_⊎_, _≢_}
 use mathlib.Core.Path.{_≡_}
-use Prim.Native.Nat.{ℕ, zero, suc, _+_, _*_, _≤_, _<_}
+use Prim.Native.Nat.{ℕ, _+_, _*_, _≤_, _<_}
 use lib.ListN.{length, getD, take, drop}
 use Rattle.rows.specs.Rows.{ByteText}
 use Rattle.sets.specs.Sets.{has}
@@ -25,6 +25,7 @@ use Rattle.tally.specs.declared.Pass.{Pass}
 use Rattle.tally.specs.declared.Pass.the-variants.{Through, Ends}
 use Rattle.tally.specs.declared.Tallied.{Tallied}
 use Rattle.tally.specs.Lines.{linesOf, framesOf, lineOf, onLine}
+use Rattle.tally.specs.Written.{startOf}
 use Rattle.tally.specs.Tally.{framePass, frameRules, moveBy, sumsOf, tallyOf, bufferOf, numberOf, valueOf}
 
 -- ---- a call of the tally
@@ -52,12 +53,6 @@ pub record Answers (w : Call) (number value : ℕ) : Type 0 where
 -- the lines are all sound
 abbrev pub AllSound : List (List ℕ) → Type 0
 AllSound ls = (i : ℕ) → i < length ls → lineOf (getD ls i []) ≢ Broken
-
--- where line i of those from `at` on starts
-unfoldable pub startOf : ℕ → List (List ℕ) → ℕ → ℕ
-startOf at [] i = at
-startOf at (l ∷ ls) zero = at
-startOf at (l ∷ ls) (suc i) = startOf (at + length l + 1) ls i
 
 -- line i is the first that breaks the rules
 pub record FirstBroken (ls : List (List ℕ)) (i : ℕ) : Type 0 where

@@ -2,8 +2,8 @@
 use mathlib.Core.List.{List, [], _∷_, _++_}
 use mathlib.Core.Logic.{_⊎_, _↔_, _≢_}
 use mathlib.Core.Path.{_≡_}
-use Prim.Native.Nat.{ℕ, suc, _+_, _-_, _*_, _≤_, _<_}
-use lib.ListN.{length, getD}
+use Prim.Native.Nat.{ℕ, zero, suc, _+_, _-_, _*_, _≤_, _<_}
+use lib.ListN.{length, getD, take, drop}
 use Rattle.tally.specs.declared.Count.the-variants.{Is}
 use Rattle.tally.specs.declared.Line.the-variants.{Sound}
 use Rattle.tally.specs.Lines.{lf, space, semicolon, mostCount, linesOf, framesOf, countOf, lineOf}
@@ -24,11 +24,19 @@ Without mark ps = (i j : ℕ) → i < length ps → j < length (getD ps i []) �
 abbrev pub LastSome : List (List ℕ) → Type 0
 LastSome ps = (i : ℕ) → suc i ≡ length ps → 1 ≤ length (getD ps i [])
 
+-- where piece i starts, where the first starts at `at`
+unfoldable pub startOf : ℕ → List (List ℕ) → ℕ → ℕ
+startOf at [] i = at
+startOf at (p ∷ ps) zero = at
+startOf at (p ∷ ps) (suc i) = startOf (at + length p + 1) ps i
+
 -- The lines of a profile are without LF, and with an LF between each two they are the profile, but for an LF that ends the last. It is missing only
 -- where the last line is not empty, or where there is none.
 pub record Lines (profile : List ℕ) : Type 0 where
   pub whole : ((join lf (linesOf profile) ≡ profile) × LastSome (linesOf profile)) ⊎ (join lf (linesOf profile) ++ lf ∷ [] ≡ profile) × (1 ≤ length (linesOf profile))
   pub without : Without lf (linesOf profile)
+  -- line i is in the profile where it starts
+  pub starts : (i : ℕ) → i < length (linesOf profile) → take (length (getD (linesOf profile) i [])) (drop (startOf 0 (linesOf profile) i) profile) ≡ getD (linesOf profile) i []
 
 -- The frames of a stack are without `;`, at least one, and with `;` between each two they are the stack.
 pub record Frames (stack : List ℕ) : Type 0 where

@@ -7,23 +7,17 @@ use Prim.Native.Nat.{ℕ, _≤_}
 use native.Mathlib.Omega.{arith}
 use lib.Dec.{T}
 use lib.Seq.{getD-take, length-take-le}
-use lib.ListN.{length, getD, take, replicate, length-append, length-replicate}
-use Rattle.meaning.proofs.Looks.{row-first}
+use lib.ListN.{length, getD, take}
 use Rattle.meaning.proofs.Tested.{below, below-at}
 use Rattle.book.specs.Content.{Content, table}
 use Rattle.book.specs.Limits.{mostRules, mostBytes}
 use Rattle.book.specs.Meant.{rulesOf}
 use Rattle.book.proofs.Tables.{is-table}
 use Rattle.build.specs.Promise.{valueOf}
-use Rattle.walk.specs.Walk.{written}
 use Rattle.walk.proofs.Whole.{built}
-use Rattle.tally.specs.declared.Tallied.{Tallied}
-use Rattle.tally.specs.declared.Tallied.the-variants.{Accepted, TooLong, BadRows, FewSums, BadLine, Damaged}
 use Rattle.tally.specs.Lines.{linesOf, lineOf, onLine}
-use Rattle.tally.specs.Tally.{moveBy, sumsOf, bufferOf}
-use Rattle.tally.specs.Totals.{Call, answer, after, AllSound, FirstBroken, Ready, total}
+use Rattle.tally.specs.Totals.{Call, after, AllSound, FirstBroken, total, times}
 use Rattle.tally.specs.Written.{startOf}
-use Rattle.tally.proofs.Walks.{lines-length}
 use Rattle.tally.proofs.Demands.{refuses, sums}
 use Rattle.numbers.specs.Cases.{tally, refusal, Holds}
 use Rattle.numbers.proofs.Books.{Means}
@@ -40,22 +34,6 @@ refused profile {i} short broken b n buffer some lends places =
 
 -- ---- sums
 
--- the sums have their places after any answer
-long-after : (x : Tallied) (new old : List ℕ) → mostRules ≤ length new → mostRules ≤ length old → mostRules ≤ length (bufferOf x new old)
-unfolding written
-long-after Accepted new old h g = simp length-append (omega arith)
-long-after TooLong new old h g = g
-long-after (BadRows n) new old h g = g
-long-after (FewSums n) new old h g = g
-long-after (BadLine at) new old h g = g
-long-after (Damaged at) new old h g = g
-
-after-long : (w : Call) → mostRules ≤ length (w .sums) → mostRules ≤ length (after w)
-after-long w h =
-    let move = moveBy (w .tables) (w .n) in
-    let l : length (sumsOf move (w .profile)) ≡ mostRules = lines-length move (w .profile) (replicate mostRules 0) ∙ length-replicate {A = ℕ} mostRules 0 in
-    long-after (answer w) (sumsOf move (w .profile)) (w .sums) (omega arith) h
-
 -- whether all lines are sound
 abbrev pub areSound : List (List ℕ) → Bool
 areSound ls = below (length ls) (λ i. onLine (lineOf (getD ls i [])) (λ stack count. true) false)
@@ -64,17 +42,16 @@ are-sound : (ls : List (List ℕ)) → T (areSound ls) → AllSound ls
 are-sound ls x i l e = rw e at (below-at (length ls) (λ i. onLine (lineOf (getD ls i [])) (λ stack count. true) false) x i l)
 
 pub summing : {a : Content} {bytes : List ℕ} → Means bytes a → (profile : List ℕ) → isSmall a profile ≡ true → T (areSound (linesOf profile))
-    → Holds (tally bytes profile 0 0 (table mostRules (λ k. total (rulesOf a) k profile)))
+    → Holds (tally bytes profile 0 0 (table mostRules (λ k. total (times (rulesOf a) k) profile)))
 summing {a} e profile x lines old b y p z buffer places =
     let (t, lends) = built (built-of (e .meant) p) z in
     let s = small a profile x in
     let w : Call = record { tables = b; n = valueOf y; profile = profile; sums = buffer } in
     let told = sums (rulesOf a) w (record { tables = t; few = s .few; bytes = s .bytes }) in
-    let ready : Ready w = record { short = s .short; some = omega (arith, row-first t .below, t .count); lends = lends; places = places } in
-    let accepted = told .accepts ready (are-sound (linesOf profile) lines) in
-    let long = length-take-le mostRules (after w) (after-long w places) in
+    let accepted = told .accepts (s .short) lends places (are-sound (linesOf profile) lines) in
+    let long = length-take-le mostRules (after w) (omega (arith, refuses w .long)) in
     record {
       answers = accepted;
-      sums-are = is-table mostRules (λ k. total (rulesOf a) k profile) (take mostRules (after w)) long (λ k l. getD-take mostRules (after w) k 0 l ∙ told .sums accepted k l);
+      sums-are = is-table mostRules (λ k. total (times (rulesOf a) k) profile) (take mostRules (after w)) long (λ k l. getD-take mostRules (after w) k 0 l ∙ told .sums accepted k l);
       later-are = refuses w .later;
     }

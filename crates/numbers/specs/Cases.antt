@@ -15,14 +15,14 @@ use Rattle.numbers.specs.Inputs.{bytesA, bytesAA, bytesX, bytesY, aabab,
 -- ---- the table
 
 -- what a build leaves: the buffers as found, every entry 0, or tables whose held and fall begin so
-pub data After : Type 0 where
-  found : After
-  cleared : After
-  tables : List ℕ → List ℕ → After
+pub data Left : Type 0 where
+  found : Left
+  cleared : Left
+  tables : List ℕ → List ℕ → Left
 
 pub data Case : Type 0 where
   -- a book and the rows lent, from the fewest to the most (no buffers lend more than `mostRows`); the number and the value of the build's answer, and what it leaves
-  build : List ℕ → ℕ → ℕ → ℕ → ℕ → After → Case
+  build : List ℕ → ℕ → ℕ → ℕ → ℕ → Left → Case
   -- a book, a text and a report buffer; the number and the values of the walk's answer, and the report buffer after it
   walk : List ℕ → List ℕ → List ℕ → ℕ → List ℕ → List ℕ → Case
   -- the same for a walk over one row of zeros but for its entry at `a`, which is given
@@ -65,13 +65,13 @@ cases =
 
 -- ---- what it says
 
-abbrev pub Leaves : After → Five → Five → Type 0
+abbrev pub Leaves : Left → Five → Five → Type 0
 Leaves found old b = b ≡ old
 Leaves cleared old b = b ≡ zeroed old
 Leaves (tables held fall) old b = (take (length held) (b .held) ≡ held) × (take (length fall) (b .fall) ≡ fall)
 
 -- an answer and buffers that keep the promise of a build are these
-pub record Answered (old b : Five) (x : Built) (number value : ℕ) (left : After) : Type 0 where
+pub record Answered (old b : Five) (x : Built) (number value : ℕ) (left : Left) : Type 0 where
   pub number-is : numberOf x ≡ number
   pub value-is : valueOf x ≡ value
   pub leaves : Leaves left old b
@@ -82,7 +82,7 @@ pub record Gives (w : Call) (number : ℕ) (values buffer : List ℕ) : Type 0 w
   pub leaves : after w ≡ buffer
 
 -- a call of the tally gives this answer and these sums, and later places are as found
-pub record Sums (w : TallyCall) (number value : ℕ) (sums : List ℕ) : Type 0 where
+pub record Adds (w : TallyCall) (number value : ℕ) (sums : List ℕ) : Type 0 where
   pub answers : TallyAnswers w number value
   pub sums-are : take mostRules (afterTally w) ≡ sums
   pub later-are : drop mostRules (afterTally w) ≡ drop mostRules (w .sums)
@@ -105,7 +105,7 @@ Holds (walk bytes text reports number values buffer) = (old b : Five) (x : Built
     → Gives (record { tables = b; n = valueOf x; text = text; reports = reports }) number values buffer
 Holds (row e text reports number values buffer) = Gives (record { tables = lone e; n = 1; text = text; reports = reports }) number values buffer
 Holds (tally bytes profile number value sums) = (old b : Five) (x : Built) → Promise bytes old b x → numberOf x ≡ 0 → (buffer : List ℕ) → mostRules ≤ length buffer
-    → Sums (record { tables = b; n = valueOf x; profile = profile; sums = buffer }) number value sums
+    → Adds (record { tables = b; n = valueOf x; profile = profile; sums = buffer }) number value sums
 Holds (refusal profile number value) = (b : Five) (n : ℕ) (buffer : List ℕ) → n ≢ 0 → n ≤ lent b → mostRules ≤ length buffer
     → Refused (record { tables = b; n = n; profile = profile; sums = buffer }) number value
 

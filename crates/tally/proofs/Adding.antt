@@ -6,7 +6,8 @@ use native.Mathlib.Omega.{arith}
 use lib.ListN.{length, getD, set, replicate, length-set}
 use Rattle.book.specs.Limits.{mostRules, mostBytes}
 use Rattle.tally.specs.Lines.{mostCount}
-use Rattle.tally.specs.Tally.{Room, addAll}
+use Rattle.tally.specs.Tally.{addAll}
+use Rattle.tally.specs.Passes.{Room}
 
 pub add-append : (count : ℕ) (js ks sums : List ℕ) → addAll count (js ++ ks) sums ≡ addAll count ks (addAll count js sums)
 unfolding addAll

@@ -9,10 +9,11 @@ use Rattle.meaning.specs.Tables.{Five}
 use Rattle.book.specs.Limits.{mostRules, mostBytes}
 use Rattle.walk.specs.Walk.{hasRows}
 use Rattle.tally.specs.declared.Pass.{Pass}
+use Rattle.tally.specs.declared.Tallied.the-variants.{Accepted}
 use Rattle.tally.specs.Lines.{checkOf}
-use Rattle.tally.specs.Tally.{linesPass, moveBy, answerOf, tallyOf}
+use Rattle.tally.specs.Tally.{linesPass, moveBy, judged, walked, tallyOf}
 
 -- of one that reaches its lines, where the pass over them r is q
 pub tallied : (b : Five) (n : ℕ) (profile : List ℕ) (places : ℕ) {r q : Pass} → length profile ≤ mostBytes → hasRows b n ≡ true → mostRules ≤ places
-    → r ≡ checkOf profile → r ≡ q → answerOf q (linesPass (moveBy b n) profile) ≡ tallyOf b n profile places
+    → r ≡ checkOf profile → r ≡ q → judged q (walked (linesPass (moveBy b n) profile) Accepted) ≡ tallyOf b n profile places
 tallied b n profile places short rows room p q = rw (← q, p) (rw (le-ltb mostBytes (length profile) short, rows, le-ltb places mostRules room))

@@ -1,12 +1,12 @@
 -- What a tally answers and leaves: over any tables, over the tables of rules, and over the buffers that a build left. Assumes nothing.
 use mathlib.Core.List.{List, _++_}
 use mathlib.Core.Logic.{_⊎_, inl, inr, _≢_}
-use mathlib.Core.Path.{_≡_, refl, sym, ap, _∙_}
+use mathlib.Core.Path.{_≡_, refl, sym, ap, fun-ext, _∙_}
 use Prim.Native.Nat.{ℕ, _≤_, _<_}
 use native.Mathlib.Omega.{arith}
 use native.Mathlib.Decide.{decLt}
 use borrow.Author.Tests.{lt-ltb, le-ltb}
-use lib.ListN.{length, getD, drop, replicate, length-replicate, List·getD-append}
+use lib.ListN.{length, getD, drop, replicate, length-append, length-drop, length-replicate, List·getD-append}
 use lib.Seq.{drop-append-seam}
 use Rattle.meaning.specs.Rules.{Rules}
 use Rattle.meaning.specs.Tables.{Five}
@@ -23,13 +23,15 @@ use Rattle.tally.specs.declared.Pass.{Pass}
 use Rattle.tally.specs.declared.Pass.the-variants.{Through, Ends}
 use Rattle.tally.specs.declared.Tallied.{Tallied}
 use Rattle.tally.specs.declared.Tallied.the-variants.{Accepted, TooLong, BadRows, FewSums, BadLine, Damaged}
-use Rattle.tally.specs.Lines.{checkOf}
-use Rattle.tally.specs.Tally.{linesPass, sumsOf, moveBy, answerOf, bufferOf, numberOf, valueOf}
-use Rattle.tally.specs.Totals.{Call, answer, after, Answers, Ready, Refusals, Refuses, total, Over, Summed, Sums, Tells, Tallies}
+use Rattle.tally.specs.Lines.{linesOf, checkOf}
+use Rattle.tally.specs.Tally.{linesPass, sumsOf, moveBy, judged, walked, bufferOf, numberOf, valueOf}
+use Rattle.tally.specs.Totals.{Call, answer, after, Answers, AllSound, Ready, among, reportsIn, total, Refusals, Refuses, times, Over, Summed, Sums, Tells, Tallies}
 use Rattle.tally.proofs.Walks.{lines-length}
 use Rattle.tally.proofs.Answers.{tallied}
 use Rattle.tally.proofs.Times.{occurrences}
-use Rattle.tally.proofs.Totals.{lines-through, sum-is}
+use Rattle.tally.proofs.Walked.{frame-reports}
+use Rattle.tally.proofs.Lost.{none-lost, lost-at}
+use Rattle.tally.proofs.Totals.{sum-is, lines-through, sum-occurs}
 use Rattle.tally.proofs.First.{checked, broken-at}
 
 -- ---- over any tables
@@ -52,50 +54,14 @@ later (FewSums places) sums old e = refl
 later (BadLine at) sums old e = refl
 later (Damaged at) sums old e = refl
 
-ran : (walks : Pass) → (numberOf (answerOf Through walks) ≡ 0) ⊎ (numberOf (answerOf Through walks) ≡ 13)
-ran Through = inl refl
-ran (Ends at) = inr refl
-
-module _ (w : Call) where
-  abbrev found : List ℕ
-  found = sumsOf (moveBy (w .tables) (w .n)) (w .profile)
-
-  found-length : length found ≡ mostRules
-  found-length = lines-length (moveBy (w .tables) (w .n)) (w .profile) (replicate mostRules 0) ∙ length-replicate {A = ℕ} mostRules 0
-
-  none-lent : length (w .profile) ≤ mostBytes → (w .n ≡ 0) ⊎ (lent (w .tables) < w .n) → answer w ≡ BadRows (w .n)
-  none-lent short (inl q) = rw (le-ltb mostBytes (length (w .profile)) short, no-rows (w .tables) (w .n) q)
-  none-lent short (inr l) =
-      let ne : w .n ≢ 0 = omega arith in
-      rw (le-ltb mostBytes (length (w .profile)) short, few-lent (w .tables) (w .n) ne l)
-
-  -- by the pass over the lines
-  judged : Ready w → {q : Pass} → checkOf (w .profile) ≡ q → answer w ≡ answerOf q (linesPass (moveBy (w .tables) (w .n)) (w .profile))
-  judged x e = sym (tallied (w .tables) (w .n) (w .profile) (length (w .sums)) (x .short) (rows-lent (w .tables) (w .n) (x .some) (x .lends)) (x .places) refl e)
-
-  answers : {a : Tallied} → answer w ≡ a → Answers w (numberOf a) (valueOf a)
-  answers e = record { number-is = rw e; value-is = rw e }
-
-  refusals : Refusals w
-  refusals = record {
-    too-long = λ l. answers {a = TooLong} (rw (lt-ltb mostBytes (length (w .profile)) l));
-    bad-rows = λ short h. answers (none-lent short h);
-    few-sums = λ short ne lends l.
-        answers {a = FewSums (length (w .sums))} (rw (le-ltb mostBytes (length (w .profile)) short, rows-lent (w .tables) (w .n) ne lends, lt-ltb (length (w .sums)) mostRules l));
-    bad-line = λ x i b. answers (judged x (broken-at (w .profile) i b));
-    ran = λ x s. rw (judged x (checked (w .profile) s)) (ran (linesPass (moveBy (w .tables) (w .n)) (w .profile)));
-    untouched = untouched (answer w) found (w .sums);
-    later = later (answer w) found (w .sums) found-length;
-  }
-
-pub refuses : Refuses
-refuses w = refusals w
-
--- ---- over the tables of rules
-
-no-damage : (q : Pass) → numberOf (answerOf q Through) ≢ 13
-no-damage Through = λ z. omega arith
-no-damage (Ends at) = λ z. omega arith
+long : (a : Tallied) (sums old : List ℕ) → length sums ≡ mostRules → (numberOf a ≡ 0 → mostRules ≤ length old) → length (bufferOf a sums old) ≡ length old
+unfolding written
+long Accepted sums old e h = simp (length-append, length-drop) (omega (arith, h refl))
+long TooLong sums old e h = refl
+long (BadRows rows) sums old e h = refl
+long (FewSums places) sums old e h = refl
+long (BadLine at) sums old e h = refl
+long (Damaged at) sums old e h = refl
 
 accepted : (a : Tallied) (sums old : List ℕ) (k : ℕ) → numberOf a ≡ 0 → k < length sums → getD (bufferOf a sums old) k 0 ≡ getD sums k 0
 unfolding written
@@ -106,53 +72,129 @@ accepted (FewSums places) sums old k e l = absurd (omega arith)
 accepted (BadLine at) sums old k e l = absurd (omega arith)
 accepted (Damaged at) sums old k e l = absurd (omega arith)
 
--- a call is refused before its lines, or gets to them
-data Start (w : Call) : Type 0 where
-  refused : numberOf (answer w) ≢ 0 → numberOf (answer w) ≢ 13 → Start w
-  ready : Ready w → Start w
+module _ (w : Call) where
+  abbrev found : List ℕ
+  found = sumsOf (moveBy (w .tables) (w .n)) (w .profile)
 
-refused-with : (w : Call) {number value : ℕ} → Answers w number value → number ≢ 0 → number ≢ 13 → Start w
-refused-with w x a b = refused (rw (x .number-is) a) (rw (x .number-is) b)
+  found-length : length found ≡ mostRules
+  found-length = lines-length (moveBy (w .tables) (w .n)) (w .profile) (replicate mostRules 0) ∙ length-replicate {A = ℕ} mostRules 0
 
-start : (w : Call) → w .n ≢ 0 → Start w
-start w ne =
-    let x = refusals w in
-    elim (decLt mostBytes (length (w .profile))) [
-      | yes l ↦ refused-with w (x .too-long l) (λ z. omega arith) (λ z. omega arith)
-      | no g ↦
-          let short : length (w .profile) ≤ mostBytes = omega arith in
-          elim (decLt (lent (w .tables)) (w .n)) [
-            | yes l ↦ refused-with w (x .bad-rows short (inr l)) (λ z. omega arith) (λ z. omega arith)
-            | no h ↦
-                let lends : w .n ≤ lent (w .tables) = omega arith in
-                elim (decLt (length (w .sums)) mostRules) [
-                  | yes l ↦ refused-with w (x .few-sums short ne lends l) (λ z. omega arith) (λ z. omega arith)
-                  | no j ↦ ready (record { short = short; some = ne; lends = lends; places = omega arith })
-                ]
-          ]
-    ]
+  answers : {a : Tallied} → answer w ≡ a → Answers w (numberOf a) (valueOf a)
+  answers e = record { number-is = rw e; value-is = rw e }
+
+  -- ---- before the lines
+
+  too-long : mostBytes < length (w .profile) → Answers w 11 mostBytes
+  too-long l = answers {a = TooLong} (rw (lt-ltb mostBytes (length (w .profile)) l))
+
+  bad-rows : length (w .profile) ≤ mostBytes → (w .n ≡ 0) ⊎ (lent (w .tables) < w .n) → Answers w 12 (w .n)
+  bad-rows short (inl q) = answers {a = BadRows (w .n)} (rw (le-ltb mostBytes (length (w .profile)) short, no-rows (w .tables) (w .n) q))
+  bad-rows short (inr l) =
+      let ne : w .n ≢ 0 = omega arith in
+      answers {a = BadRows (w .n)} (rw (le-ltb mostBytes (length (w .profile)) short, few-lent (w .tables) (w .n) ne l))
+
+  few-sums : length (w .profile) ≤ mostBytes → w .n ≢ 0 → w .n ≤ lent (w .tables) → length (w .sums) < mostRules → Answers w 16 (length (w .sums))
+  few-sums short ne lends l =
+      answers {a = FewSums (length (w .sums))} (rw (le-ltb mostBytes (length (w .profile)) short, rows-lent (w .tables) (w .n) ne lends, lt-ltb (length (w .sums)) mostRules l))
+
+  -- it is refused before its lines, or gets to them
+  data Start : Type 0 where
+    refused : numberOf (answer w) ≢ 0 → numberOf (answer w) ≢ 13 → Start
+    ready : Ready w → Start
+
+  refused-with : {number value : ℕ} → Answers w number value → number ≢ 0 → number ≢ 13 → Start
+  refused-with x a b = refused (rw (x .number-is) a) (rw (x .number-is) b)
+
+  start-rows : length (w .profile) ≤ mostBytes → w .n ≢ 0 → w .n ≤ lent (w .tables) → Start
+  start-rows short ne lends =
+      elim (decLt (length (w .sums)) mostRules) [
+        | yes l ↦ refused-with (few-sums short ne lends l) (λ z. omega arith) (λ z. omega arith)
+        | no j ↦ ready (record { short = short; some = ne; lends = lends; places = omega arith })
+      ]
+
+  start : Start
+  start =
+      elim (decLt mostBytes (length (w .profile))) [
+        | yes l ↦ refused-with (too-long l) (λ z. omega arith) (λ z. omega arith)
+        | no g ↦
+            let short : length (w .profile) ≤ mostBytes = omega arith in
+            elim (decLt 0 (w .n)) [
+              | no h ↦ refused-with (bad-rows short (inl (omega arith))) (λ z. omega arith) (λ z. omega arith)
+              | yes p ↦
+                  elim (decLt (lent (w .tables)) (w .n)) [
+                    | yes l ↦ refused-with (bad-rows short (inr l)) (λ z. omega arith) (λ z. omega arith)
+                    | no h ↦ start-rows short (omega arith) (omega arith)
+                  ]
+            ]
+      ]
+
+  -- ---- by the passes
+
+  answer-is : Ready w → {q : Pass} → checkOf (w .profile) ≡ q → answer w ≡ judged q (walked (linesPass (moveBy (w .tables) (w .n)) (w .profile)) Accepted)
+  answer-is x e = sym (tallied (w .tables) (w .n) (w .profile) (length (w .sums)) (x .short) (rows-lent (w .tables) (w .n) (x .some) (x .lends)) (x .places) refl e)
+
+  -- where the lines are sound and the walks' pass is q
+  walks-answer : Ready w → AllSound (linesOf (w .profile)) → {q : Pass} → linesPass (moveBy (w .tables) (w .n)) (w .profile) ≡ q
+      → Answers w (numberOf (walked q Accepted)) (valueOf (walked q Accepted))
+  walks-answer x s {q} e = answers {a = walked q Accepted} (answer-is x (checked (w .profile) s) ∙ ap (λ p. walked p Accepted) e)
+
+  -- the sums of an accepted call
+  sums-are : Answers w 0 0 → (k : ℕ) → k < mostRules → getD (after w) k 0 ≡ getD found k 0
+  sums-are a k l = accepted (answer w) found (w .sums) k (a .number-is) (omega (arith, found-length))
+
+  sums-told : Start → Answers w 0 0 → (k : ℕ) → k < mostRules → getD (after w) k 0 ≡ total (reportsIn (w .tables) (w .n) k) (w .profile)
+  sums-told (refused ne _) a k l = absurd (ne (a .number-is))
+  sums-told (ready x) a k l =
+      sums-are a k l ∙ sum-is (moveBy (w .tables) (w .n)) k l (w .profile)
+      ∙ ap (λ (often : List ℕ → ℕ). total often (w .profile)) (fun-ext (λ frame. ap (among k) (frame-reports (w .tables) (w .n) (x .lends) (x .some) frame)))
+
+  roomy : Start → numberOf (answer w) ≡ 0 → mostRules ≤ length (w .sums)
+  roomy (refused ne _) z = absurd (ne z)
+  roomy (ready x) z = x .places
+
+  refusals : Refusals w
+  refusals = record {
+    too-long = too-long;
+    bad-rows = bad-rows;
+    few-sums = few-sums;
+    bad-line = λ x i b. answers (answer-is x (broken-at (w .profile) i b));
+    damaged = λ x s i j c f. walks-answer x s (lost-at w x i j c f);
+    accepted = λ x s h. walks-answer x s (none-lost w x h);
+    sums = sums-told start;
+    untouched = untouched (answer w) found (w .sums);
+    later = later (answer w) found (w .sums) found-length;
+    long = long (answer w) found (w .sums) found-length (roomy start);
+  }
+
+pub refuses : Refuses
+refuses w = refusals w
+
+-- ---- over the tables of rules
+
+no-damage : (q : Pass) → numberOf (judged q (walked Through Accepted)) ≢ 13
+no-damage Through = λ z. omega arith
+no-damage (Ends at) = λ z. omega arith
 
 module _ {r : Rules} {w : Call} (over : Over r w) where
-  begin : Start w
-  begin = start w (omega (arith, row-first (over .tables) .below, over .tables .count))
-
   walks-through : w .n ≤ lent (w .tables) → linesPass (moveBy (w .tables) (w .n)) (w .profile) ≡ Through
   walks-through lends = lines-through (over .tables) lends (w .profile) (over .bytes)
 
   undamaged : Start w → numberOf (answer w) ≢ 13
   undamaged (refused _ ne) = ne
-  undamaged (ready x) = rw (judged w x refl, walks-through (x .lends)) (no-damage (checkOf (w .profile)))
+  undamaged (ready x) = rw (answer-is w x refl, walks-through (x .lends)) (no-damage (checkOf (w .profile)))
 
-  sum-of : Start w → Answers w 0 0 → (k : ℕ) → k < mostRules → getD (after w) k 0 ≡ total r k (w .profile)
+  sum-of : Start w → Answers w 0 0 → (k : ℕ) → k < mostRules → getD (after w) k 0 ≡ total (times r k) (w .profile)
   sum-of (refused ne _) a k l = absurd (ne (a .number-is))
-  sum-of (ready x) a k l =
-      accepted (answer w) (found w) (w .sums) k (a .number-is) (omega (arith, found-length w)) ∙ sum-is (over .tables) (x .lends) k l (w .profile) (over .bytes)
+  sum-of (ready x) a k l = sums-are w a k l ∙ sum-occurs (over .tables) (x .lends) k l (w .profile) (over .bytes)
+
+  some : w .n ≢ 0
+  some = omega (arith, row-first (over .tables) .below, over .tables .count)
 
   summed : Summed r w
   summed = record {
-    undamaged = undamaged begin;
-    accepts = λ x s. answers w {a = Accepted} (judged w x (checked (w .profile) s) ∙ rw (walks-through (x .lends)));
-    sums = sum-of begin;
+    undamaged = undamaged (start w);
+    accepts = λ short lends places s. walks-answer w (record { short = short; some = some; lends = lends; places = places }) s (walks-through lends);
+    sums = sum-of (start w);
     occurrences = λ k text. occurrences r (over .few) k text;
   }
 

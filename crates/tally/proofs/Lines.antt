@@ -96,16 +96,16 @@ line-is line p q = (rw (← q, p) (line-right line), rw (← p) q)
 -- ---- pieces
 
 -- the pieces have no more bytes than the text
-abbrev pub total : List (List ℕ) → ℕ
-total [] = 0
-total (p ∷ ps) = length p + total ps
+abbrev pub bytesIn : List (List ℕ) → ℕ
+bytesIn [] = 0
+bytesIn (p ∷ ps) = length p + bytesIn ps
 
-pub split-total : (mark : ℕ) (none : List (List ℕ)) (text : List ℕ) → total (split mark none text) ≤ total none + length text
+pub split-bytes : (mark : ℕ) (none : List (List ℕ)) (text : List ℕ) → bytesIn (split mark none text) ≤ bytesIn none + length text
 unfolding split
-split-total mark none [] = omega arith
-split-total mark none (c ∷ text) = go (eqb c mark) (split mark none text) (split-total mark none text)
+split-bytes mark none [] = omega arith
+split-bytes mark none (c ∷ text) = go (eqb c mark) (split mark none text) (split-bytes mark none text)
   where
-    go : (b : Bool) (ps : List (List ℕ)) → total ps ≤ total none + length text → total (cond b ([] ∷ ps) (joined c ps)) ≤ total none + suc (length text)
+    go : (b : Bool) (ps : List (List ℕ)) → bytesIn ps ≤ bytesIn none + length text → bytesIn (cond b ([] ∷ ps) (joined c ps)) ≤ bytesIn none + suc (length text)
     go true ps h = omega arith
     go false [] h = omega arith
     go false (p ∷ ps) h = omega arith

@@ -90,7 +90,7 @@ module _ (mark : ℕ) where
 
 -- ---- where a piece starts
 
-start-from : (ps : List (List ℕ)) (at i : ℕ) → startOf at ps i ≡ at + startOf 0 ps i
+pub start-from : (ps : List (List ℕ)) (at i : ℕ) → startOf at ps i ≡ at + startOf 0 ps i
 unfolding startOf
 start-from [] at i = rw add-zero
 start-from (p ∷ ps) at zero = rw add-zero

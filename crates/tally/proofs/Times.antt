@@ -16,10 +16,10 @@ use Rattle.meaning.specs.Rules.{Rules, count}
 use Rattle.meaning.specs.Standing.{out}
 use Rattle.book.specs.Limits.{mostRules}
 use Rattle.walk.specs.Demands.{Lists}
-use Rattle.walk.proofs.Lists.{lists-iff, lists-none, lists-cons}
+use Rattle.walk.proofs.Lists.{lists-iff, lists-none, lists-cons, lists-one}
 use Rattle.walk.proofs.Occurrences.{Ending, Next, has-out, ending-cons, ending-occurs}
 use Rattle.tally.specs.Tally.{addAll}
-use Rattle.tally.specs.Totals.{Number, timesFrom, times}
+use Rattle.tally.specs.Totals.{among, Number, OneNumber, timesFrom, times}
 
 -- ---- occurrences
 
@@ -73,11 +73,10 @@ module _ (r : Rules) (few : count r ≤ mostRules) (k : ℕ) where
         lists = lists-iff (λ e j. (λ (q, y). (q, ending-occurs r text e j .0 y), λ (q, y). (q, ending-occurs r text e j .1 y))) (x .lists);
       }
 
--- ---- how often k is among rules
+pub one-number : OneNumber
+one-number r text k m n a b = lists-one (a .lists) (b .lists) .0
 
-unfoldable pub among : ℕ → List ℕ → ℕ
-among k [] = 0
-among k (j ∷ js) = cond (eqb j k) 1 0 + among k js
+-- ---- how often k is among rules
 
 pub among-append : (k : ℕ) (js ls : List ℕ) → among k (js ++ ls) ≡ among k js + among k ls
 unfolding among

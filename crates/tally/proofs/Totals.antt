@@ -24,10 +24,10 @@ use Rattle.tally.specs.declared.Pass.{Pass}
 use Rattle.tally.specs.declared.Pass.the-variants.{Through}
 use Rattle.tally.specs.Lines.{lf, semicolon, joined, split, linesOf, framesOf, passOver, lineOf, onLine}
 use Rattle.tally.specs.Tally.{addAll, passFrom, rulesFrom, framePass, frameRules, rulesOver, stackPass, stackRules, linePass, lineSums, sumsOver, linesPass, linesSums, sumsOf, moveBy}
-use Rattle.tally.specs.Totals.{timesFrom, times, timesIn, partOf, partsOf, total}
+use Rattle.tally.specs.Totals.{among, timesFrom, times, timesIn, partOf, partsOf, total}
 use Rattle.tally.proofs.Adding.{zero-at}
 use Rattle.tally.proofs.Walks.{line-length}
-use Rattle.tally.proofs.Times.{among, among-append, among-those, add-times}
+use Rattle.tally.proofs.Times.{among-append, among-those, add-times}
 
 -- ---- pieces of bytes
 
@@ -58,6 +58,59 @@ take-bytes (suc i) (c ∷ text) b = byte-cons c (take i text) (b 0) (take-bytes 
 
 frames-all : (n : ℕ) (line : List ℕ) → ByteText line → All (framesOf (take n line))
 frames-all n line b = split-all semicolon ([] ∷ []) (more no-byte empty) (take n line) (take-bytes n line b)
+
+-- ---- sums, whatever lies behind a move
+
+module _ (move : ℕ → ℕ → Moved) (k : ℕ) (small : k < mostRules) where
+  -- how often a frame reports rule k
+  abbrev reporting : List ℕ → ℕ
+  reporting frame = among k (frameRules move frame)
+
+  frames-times : (fs : List (List ℕ)) → among k (rulesOver move fs) ≡ timesIn reporting fs
+  unfolding rulesOver timesIn among
+  frames-times [] = refl
+  frames-times (f ∷ fs) = rw (among-append, frames-times fs)
+
+  line-part : (line sums : List ℕ) → k < length sums → getD (lineSums move line sums) k 0 ≡ getD sums k 0 + partOf reporting line
+  unfolding lineSums partOf stackRules
+  line-part line sums h = go (lineOf line)
+    where
+      go : (l : Line) → getD (onLine l (λ stack count. addAll count (stackRules move (take stack line)) sums) sums) k 0
+          ≡ getD sums k 0 + onLine l (λ stack count. count * timesIn reporting (framesOf (take stack line))) 0
+      go (Sound stack count) = add-times count k (stackRules move (take stack line)) sums h ∙ rw (frames-times (framesOf (take stack line)))
+      go Broken = rw add-zero
+
+  lines-part : (ls : List (List ℕ)) (sums : List ℕ) → k < length sums → getD (sumsOver move ls sums) k 0 ≡ getD sums k 0 + partsOf reporting ls
+  unfolding sumsOver partsOf
+  lines-part [] sums h = rw add-zero
+  lines-part (l ∷ ls) sums h = lines-part ls (lineSums move l sums) (rw (line-length move l sums) h) ∙ rw (line-part l sums h, add-assoc)
+
+  pub sum-is : (profile : List ℕ) → getD (sumsOf move profile) k 0 ≡ total reporting profile
+  unfolding linesSums
+  sum-is profile = lines-part (linesOf profile) (replicate mostRules 0) small ∙ rw (zero-at mostRules k, zero-add)
+
+-- two numbers of a frame that agree on bytes have the same totals over a profile of bytes
+module _ (f g : List ℕ → ℕ) (same : (frame : List ℕ) → ByteText frame → f frame ≡ g frame) where
+  times-same : (fs : List (List ℕ)) → All fs → timesIn f fs ≡ timesIn g fs
+  unfolding timesIn
+  times-same [] empty = refl
+  times-same (x ∷ fs) (more bytes a) = rw (same x bytes, times-same fs a)
+
+  part-same : (line : List ℕ) → ByteText line → partOf f line ≡ partOf g line
+  unfolding partOf
+  part-same line bytes = go (lineOf line)
+    where
+      go : (l : Line) → onLine l (λ stack count. count * timesIn f (framesOf (take stack line))) 0 ≡ onLine l (λ stack count. count * timesIn g (framesOf (take stack line))) 0
+      go (Sound stack count) = rw (times-same (framesOf (take stack line)) (frames-all stack line bytes))
+      go Broken = refl
+
+  parts-same : (ls : List (List ℕ)) → All ls → partsOf f ls ≡ partsOf g ls
+  unfolding partsOf
+  parts-same [] empty = refl
+  parts-same (l ∷ ls) (more bytes a) = rw (part-same l bytes, parts-same ls a)
+
+  total-same : (profile : List ℕ) → ByteText profile → total f profile ≡ total g profile
+  total-same profile bytes = parts-same (linesOf profile) (split-all lf [] empty profile bytes)
 
 -- a pass that each piece lets through
 through : (each : ℕ → List ℕ → Pass) → ((at : ℕ) (p : List ℕ) → ByteText p → each at p ≡ Through) → (ps : List (List ℕ)) → All ps → (at : ℕ)
@@ -109,27 +162,5 @@ module _ {r : Rules} {b : Five} {n : ℕ} (tables : Tables r b n) (lends : n ≤
     unfolding frameRules
     frame-times frame bytes = from-times frame bytes (row-first tables)
 
-    frames-times : (fs : List (List ℕ)) → All fs → among k (rulesOver move fs) ≡ timesIn r k fs
-    unfolding rulesOver timesIn among
-    frames-times [] empty = refl
-    frames-times (f ∷ fs) (more bytes a) = rw (among-append, frame-times f bytes, frames-times fs a)
-
-    line-part : (line sums : List ℕ) → ByteText line → k < length sums → getD (lineSums move line sums) k 0 ≡ getD sums k 0 + partOf r k line
-    unfolding lineSums partOf stackRules
-    line-part line sums bytes h = go (lineOf line)
-      where
-        go : (l : Line) → getD (onLine l (λ stack count. addAll count (stackRules move (take stack line)) sums) sums) k 0
-            ≡ getD sums k 0 + onLine l (λ stack count. count * timesIn r k (framesOf (take stack line))) 0
-        go (Sound stack count) =
-            add-times count k (stackRules move (take stack line)) sums h ∙ rw (frames-times (framesOf (take stack line)) (frames-all stack line bytes))
-        go Broken = rw add-zero
-
-    lines-part : (ls : List (List ℕ)) → All ls → (sums : List ℕ) → k < length sums → getD (sumsOver move ls sums) k 0 ≡ getD sums k 0 + partsOf r k ls
-    unfolding sumsOver partsOf
-    lines-part [] empty sums h = rw add-zero
-    lines-part (l ∷ ls) (more bytes a) sums h = lines-part ls a (lineSums move l sums) (rw (line-length move l sums) h) ∙ rw (line-part l sums bytes h, add-assoc)
-
-    pub sum-is : (profile : List ℕ) → ByteText profile → getD (sumsOf move profile) k 0 ≡ total r k profile
-    unfolding linesSums
-    sum-is profile bytes =
-        lines-part (linesOf profile) (split-all lf [] empty profile bytes) (replicate mostRules 0) small ∙ rw (zero-at mostRules k, zero-add)
+    pub sum-occurs : (profile : List ℕ) → ByteText profile → getD (sumsOf move profile) k 0 ≡ total (times r k) profile
+    sum-occurs profile bytes = sum-is move k small profile ∙ total-same (reporting move k small) (times r k) frame-times profile bytes

@@ -1,4 +1,4 @@
--- The tally walks a frame as `walk` walks a text: it ends where the walk stops, and reports the same rules. Assumes nothing.
+-- The tally walks a frame as `walk` walks a text: it is lost where the walk is refused with 13, and reports the same rules. Assumes nothing.
 use mathlib.Core.Bool.{Bool, true, false, cond}
 use mathlib.Core.List.{List, [], _∷_, _++_}
 use mathlib.Core.Logic.{_≢_}
@@ -17,13 +17,14 @@ use Rattle.walk.specs.declared.Counted.{Counted}
 use Rattle.walk.specs.declared.Counted.the-variants.{Read, Stopped}
 use Rattle.walk.specs.declared.Moved.{Moved}
 use Rattle.walk.specs.declared.Moved.the-variants.{Reached, Lost}
-use Rattle.walk.specs.declared.Walked.the-variants.{Accepted, NoRoom}
-use Rattle.walk.specs.Walk.{Lent, Looked, Go, Fall, Wrong, lookAt, onLook, moveIn, moveFrom, onMove, reported, runFrom, runOf, reportsFrom, answerOf}
+use Rattle.walk.specs.declared.Walked.{Walked}
+use Rattle.walk.specs.declared.Walked.the-variants.{Accepted, TooLong, BadRows, Damaged, NoRoom}
+use Rattle.walk.specs.Walk.{Lent, Looked, Go, Fall, Wrong, lookAt, onLook, moveIn, moveFrom, onMove, reported, runFrom, runOf, reportsFrom, reportsOf, answerOf, walkOf, numberOf, valueOf}
 use Rattle.walk.proofs.Laws.{Within, move-within, long-enough, rows-lent, walked}
 use Rattle.tally.specs.declared.Pass.{Pass}
 use Rattle.tally.specs.declared.Pass.the-variants.{Through, Ends}
 use Rattle.tally.specs.Tally.{afterMove, passFrom, rulesFrom, framePass, frameRules, moveBy}
-use Rattle.tally.specs.Totals.{rulesIn, onWalk, AsWalked, Walks}
+use Rattle.tally.specs.Totals.{rulesIn}
 
 rules-pairs : (e : ℕ) (ks rs : List ℕ) → rulesIn (pairs e ks ++ rs) ≡ ks ++ rulesIn rs
 unfolding rulesIn pairs
@@ -101,25 +102,53 @@ module _ (b : Five) (n : ℕ) (lends : n ≤ lent b) where
       go (Reached to f rules) w t ih = ap (λ s. members mostRules s ++ rulesFrom (moveBy b n) to frame) t ∙ rw (ih to w, rules-pairs, reported-is (b .out) to)
       go Lost w t ih = refl
 
-  -- ---- the walk's answer
+  -- ---- the walk's answer, with no room
 
-  on-answer : (held : List ℕ) (room base : ℕ) (q : Counted) → onRun base q ≡ onWalk base (answerOf held room q)
-  on-answer held room base (Read made falls row) = go (ltb room made)
+  -- where the walk over a text that starts at `base` is refused with 13
+  abbrev onWalk : ℕ → Walked → Pass
+  onWalk base (Damaged i) = Ends (base + i)
+  onWalk base (Accepted made falls held) = Through
+  onWalk base (NoRoom made) = Through
+  onWalk base TooLong = Through
+  onWalk base (BadRows m) = Through
+
+  on-answer : (held : List ℕ) (base : ℕ) (q : Counted) → onRun base q ≡ onWalk base (answerOf held (0 / 2) q)
+  on-answer held base (Read made falls row) = go (ltb (0 / 2) made)
     where
       go : (t : Bool) → Through ≡ onWalk base (cond t (NoRoom made) (Accepted made falls (getD held row 0)))
       go true = refl
       go false = refl
-  on-answer held room base (Stopped i) = refl
+  on-answer held base (Stopped i) = refl
 
-  as-walked : n ≢ 0 → (frame : List ℕ) → length frame ≤ mostBytes → AsWalked b n frame
-  unfolding framePass frameRules
-  as-walked ne frame short = record {
-    stops = λ at space.
+  lost-is : (a : Walked) (base x : ℕ) → numberOf a ≡ 13 → valueOf a ≡ x → onWalk base a ≡ Ends (base + x)
+  lost-is (Damaged i) base x e v = rw v
+  lost-is (Accepted made falls held) base x e v = absurd (omega arith)
+  lost-is (NoRoom made) base x e v = absurd (omega arith)
+  lost-is TooLong base x e v = absurd (omega arith)
+  lost-is (BadRows m) base x e v = absurd (omega arith)
+
+  kept-is : (a : Walked) (base : ℕ) → numberOf a ≢ 13 → onWalk base a ≡ Through
+  kept-is (Damaged i) base ne = absurd (ne refl)
+  kept-is (Accepted made falls held) base ne = refl
+  kept-is (NoRoom made) base ne = refl
+  kept-is TooLong base ne = refl
+  kept-is (BadRows m) base ne = refl
+
+  module _ (some : n ≢ 0) (frame : List ℕ) where
+    as-walked : (at : ℕ) → length frame ≤ mostBytes → framePass (moveBy b n) at frame ≡ onWalk at (walkOf b n frame 0)
+    unfolding framePass
+    as-walked at short =
         rw add-zero at (pass-is frame at 0 0 0 0 (omega arith))
-        ∙ on-answer (b .held) (space / 2) at (runOf (b .goto) (b .fall) (b .out) n frame)
-        ∙ ap (onWalk at) (walked b n frame space short (rows-lent b n ne lends) refl refl);
-    reports = rules-are frame 0 0 (omega arith);
-  }
+        ∙ on-answer (b .held) at (runOf (b .goto) (b .fall) (b .out) n frame)
+        ∙ ap (onWalk at) (walked b n frame 0 short (rows-lent b n some lends) refl refl)
 
-pub walks : Walks
-walks b n ne lends frame short = as-walked b n lends ne frame short
+    pub frame-lost : (at x : ℕ) → length frame ≤ mostBytes → numberOf (walkOf b n frame 0) ≡ 13 → valueOf (walkOf b n frame 0) ≡ x
+        → framePass (moveBy b n) at frame ≡ Ends (at + x)
+    frame-lost at x short e v = as-walked at short ∙ lost-is (walkOf b n frame 0) at x e v
+
+    pub frame-kept : (at : ℕ) → length frame ≤ mostBytes → numberOf (walkOf b n frame 0) ≢ 13 → framePass (moveBy b n) at frame ≡ Through
+    frame-kept at short ne = as-walked at short ∙ kept-is (walkOf b n frame 0) at ne
+
+    pub frame-reports : frameRules (moveBy b n) frame ≡ rulesIn (reportsOf (b .goto) (b .fall) (b .out) n frame)
+    unfolding frameRules
+    frame-reports = rules-are frame 0 0 (omega arith)

@@ -16,8 +16,9 @@ use Rattle.tally.specs.declared.Line.{Line}
 use Rattle.tally.specs.declared.Line.the-variants.{Sound, Broken}
 use Rattle.tally.specs.declared.Pass.the-variants.{Through, Ends}
 use Rattle.tally.specs.Lines.{lf, semicolon, split, linesOf, framesOf, upTo, onPass, passOver, lineOf, onLine}
-use Rattle.tally.specs.Tally.{Room, addAll, afterMove, passFrom, rulesFrom, framePass, frameRules, rulesOver, stackRules, lineSums, sumsOver, linesSums}
-use Rattle.tally.proofs.Lines.{total, split-total, piece, Step, step, pieces-end, pieces-pass, lines-step, Right, line-right}
+use Rattle.tally.specs.Tally.{addAll, afterMove, passFrom, rulesFrom, framePass, frameRules, rulesOver, stackRules, lineSums, sumsOver, linesSums}
+use Rattle.tally.specs.Passes.{Room}
+use Rattle.tally.proofs.Lines.{bytesIn, split-bytes, piece, Step, step, pieces-end, pieces-pass, lines-step, Right, line-right}
 use Rattle.tally.proofs.Adding.{length-add, room-less, room-add}
 
 pub members-le : (n set : ℕ) → length (members n set) ≤ n
@@ -63,14 +64,14 @@ module _ (move : ℕ → ℕ → Moved) where
 
   -- ---- the frames of a stack
 
-  over-le : (fs : List (List ℕ)) → length (rulesOver move fs) ≤ mostRules * total fs
+  over-le : (fs : List (List ℕ)) → length (rulesOver move fs) ≤ mostRules * bytesIn fs
   unfolding rulesOver
   over-le [] = omega arith
   over-le (f ∷ fs) = simp length-append (omega (arith, frame-le f, over-le fs))
 
   pub stack-le : (stack : List ℕ) → length (stackRules move stack) ≤ mostRules * length stack
   unfolding stackRules
-  stack-le stack = omega (arith, over-le (framesOf stack), split-total semicolon ([] ∷ []) stack)
+  stack-le stack = omega (arith, over-le (framesOf stack), split-bytes semicolon ([] ∷ []) stack)
 
   -- an empty frame lets the pass through
   quiet : (i : ℕ) → passOver (framePass move) i ([] ∷ []) ≡ Through

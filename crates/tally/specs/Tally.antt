@@ -2,8 +2,7 @@
 -- byte's move is not looked at: `move` is any function of a row and a byte. Assumes nothing.
 use mathlib.Core.Bool.{cond}
 use mathlib.Core.List.{List, [], _∷_, _++_}
-use mathlib.Core.Path.{_≡_}
-use Prim.Native.Nat.{ℕ, _+_, _*_, _^_, _<_}
+use Prim.Native.Nat.{ℕ, _+_}
 use lib.Dec.{ltb}
 use lib.ListN.{length, getD, set, take, replicate}
 use Rattle.sets.specs.Sets.{members}
@@ -16,18 +15,7 @@ use Rattle.tally.specs.declared.Pass.{Pass}
 use Rattle.tally.specs.declared.Pass.the-variants.{Through, Ends}
 use Rattle.tally.specs.declared.Tallied.{Tallied}
 use Rattle.tally.specs.declared.Tallied.the-variants.{Accepted, TooLong, BadRows, FewSums, BadLine, Damaged}
-use Rattle.tally.specs.Lines.{mostCount, linesOf, framesOf, passOver, lineOf, onLine, checkOf}
-
--- ---- what the passes ask and leave
-
--- room in the sums for so many reports
-pub record Room (reports : ℕ) (sums : List ℕ) : Type 0 where
-  pub fits : (k : ℕ) → getD sums k 0 + mostCount * reports < 2 ^ 64
-
--- A pass that gets through leaves these sums.
-abbrev pub After : Pass → List ℕ → List ℕ → Type 0
-After Through sums told = sums ≡ told
-After (Ends at) sums told = Unit {0}
+use Rattle.tally.specs.Lines.{linesOf, framesOf, passOver, lineOf, onLine, checkOf}
 
 -- ---- what is added
 
@@ -99,19 +87,22 @@ module _ (move : ℕ → ℕ → Moved) where
 abbrev pub moveBy : Five → ℕ → ℕ → ℕ → Moved
 moveBy b n = moveOf (b .goto) (b .fall) (b .out) n
 
--- by the pass over all lines, then by the walks
-abbrev pub answerOf : Pass → Pass → Tallied
-answerOf (Ends at) walks = BadLine at
-answerOf Through (Ends at) = Damaged at
-answerOf Through Through = Accepted
+-- A line that breaks the rules is refused, and a walk that is lost; else comes what is next.
+abbrev pub judged : Pass → Tallied → Tallied
+judged (Ends at) next = BadLine at
+judged Through next = next
 
--- The tally's answer, with a sums buffer of so many places.
+abbrev pub walked : Pass → Tallied → Tallied
+walked (Ends at) next = Damaged at
+walked Through next = next
+
+-- The tally's answer, with a sums buffer of so many places: every line is judged before a frame is walked.
 abbrev pub tallyOf : Five → ℕ → List ℕ → ℕ → Tallied
 tallyOf b n profile places =
     cond (ltb mostBytes (length profile)) TooLong
     (cond (hasRows b n)
     (cond (ltb places mostRules) (FewSums places)
-    (answerOf (checkOf profile) (linesPass (moveBy b n) profile)))
+    (judged (checkOf profile) (walked (linesPass (moveBy b n) profile) Accepted)))
     (BadRows n))
 
 -- The sums buffer after an answer: a refusal leaves it as it was.

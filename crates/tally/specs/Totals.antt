@@ -4,6 +4,7 @@ use mathlib.Core.List.{List, [], _∷_}
 use mathlib.Core.Logic.{_⊎_, _≢_}
 use mathlib.Core.Path.{_≡_}
 use Prim.Native.Nat.{ℕ, _+_, _*_, _≤_, _<_}
+use lib.Dec.{eqb}
 use lib.ListN.{length, getD, take, drop}
 use Rattle.rows.specs.Rows.{ByteText}
 use Rattle.sets.specs.Sets.{has}
@@ -17,16 +18,13 @@ use Rattle.book.specs.Meant.{rulesOf}
 use Rattle.build.specs.Promise.{numberOf as numberBuilt, valueOf as valueBuilt, lent, Promise}
 use Rattle.build.specs.declared.Built.{Built}
 use Rattle.walk.specs.declared.Walked.{Walked}
-use Rattle.walk.specs.declared.Walked.the-variants.{Accepted, TooLong, BadRows, Damaged, NoRoom}
-use Rattle.walk.specs.Walk.{reportsOf, walkOf}
+use Rattle.walk.specs.Walk.{reportsOf, walkOf, numberOf as numberOfWalk, valueOf as valueOfWalk}
 use Rattle.walk.specs.Demands.{Occurs, Lists}
 use Rattle.tally.specs.declared.Line.the-variants.{Broken}
-use Rattle.tally.specs.declared.Pass.{Pass}
-use Rattle.tally.specs.declared.Pass.the-variants.{Through, Ends}
 use Rattle.tally.specs.declared.Tallied.{Tallied}
 use Rattle.tally.specs.Lines.{linesOf, framesOf, lineOf, onLine}
 use Rattle.tally.specs.Written.{startOf}
-use Rattle.tally.specs.Tally.{framePass, frameRules, moveBy, sumsOf, tallyOf, bufferOf, numberOf, valueOf}
+use Rattle.tally.specs.Tally.{moveBy, sumsOf, tallyOf, bufferOf, numberOf, valueOf}
 
 -- ---- a call of the tally
 
@@ -48,7 +46,7 @@ pub record Answers (w : Call) (number value : ℕ) : Type 0 where
   pub number-is : numberOf (answer w) ≡ number
   pub value-is : valueOf (answer w) ≡ value
 
--- ---- over any tables
+-- ---- lines and frames
 
 -- the lines are all sound
 abbrev pub AllSound : List (List ℕ) → Type 0
@@ -67,18 +65,37 @@ pub record Ready (w : Call) : Type 0 where
   pub lends : w .n ≤ lent (w .tables)
   pub places : mostRules ≤ length (w .sums)
 
--- It is refused with 11, 12, 16 or 15 in that order, exactly where the paper says; no refusal changes the sums, and no place past the sums is written.
-pub record Refusals (w : Call) : Type 0 where
-  pub too-long : mostBytes < length (w .profile) → Answers w 11 mostBytes
-  pub bad-rows : length (w .profile) ≤ mostBytes → (w .n ≡ 0) ⊎ (lent (w .tables) < w .n) → Answers w 12 (w .n)
-  pub few-sums : length (w .profile) ≤ mostBytes → w .n ≢ 0 → w .n ≤ lent (w .tables) → length (w .sums) < mostRules → Answers w 16 (length (w .sums))
-  pub bad-line : Ready w → (i : ℕ) → FirstBroken (linesOf (w .profile)) i → Answers w 15 (startOf 0 (linesOf (w .profile)) i)
-  pub ran : Ready w → AllSound (linesOf (w .profile)) → (numberOf (answer w) ≡ 0) ⊎ (numberOf (answer w) ≡ 13)
-  pub untouched : numberOf (answer w) ≢ 0 → after w ≡ w .sums
-  pub later : drop mostRules (after w) ≡ drop mostRules (w .sums)
+-- the frames of a line that is sound
+abbrev pub framesIn : List ℕ → List (List ℕ)
+framesIn line = onLine (lineOf line) (λ stack count. framesOf (take stack line)) []
 
-abbrev pub Refuses : Type 0
-Refuses = (w : Call) → Refusals w
+-- frame j of line i
+abbrev pub frameAt : List ℕ → ℕ → ℕ → List ℕ
+frameAt profile i j = getD (framesIn (getD (linesOf profile) i [])) j []
+
+-- the walk over a frame as a text of its own; 13 comes before 14, so that it has no room does not matter
+abbrev pub walkOver : Call → ℕ → ℕ → Walked
+walkOver w i j = walkOf (w .tables) (w .n) (frameAt (w .profile) i j) 0
+
+-- frame j of line i is the first whose walk is refused with 13, at its byte x
+pub record FirstLost (w : Call) (i j x : ℕ) : Type 0 where
+  pub line : i < length (linesOf (w .profile))
+  pub frame : j < length (framesIn (getD (linesOf (w .profile)) i []))
+  pub lost : numberOfWalk (walkOver w i j) ≡ 13
+  pub byte : valueOfWalk (walkOver w i j) ≡ x
+  pub lines-before : (k : ℕ) → k < i → (l : ℕ) → l < length (framesIn (getD (linesOf (w .profile)) k [])) → numberOfWalk (walkOver w k l) ≢ 13
+  pub frames-before : (l : ℕ) → l < j → numberOfWalk (walkOver w i l) ≢ 13
+
+-- no walk over a frame is refused with 13
+abbrev pub NoneLost : Call → Type 0
+NoneLost w = (i : ℕ) → i < length (linesOf (w .profile)) → (j : ℕ) → j < length (framesIn (getD (linesOf (w .profile)) i [])) → numberOfWalk (walkOver w i j) ≢ 13
+
+-- ---- sums
+
+-- how often k is in a list
+unfoldable pub among : ℕ → List ℕ → ℕ
+among k [] = 0
+among k (j ∷ js) = cond (eqb j k) 1 0 + among k js
 
 -- the rules of reports, of two numbers each: the end and the rule
 unfoldable pub rulesIn : List ℕ → List ℕ
@@ -86,21 +103,48 @@ rulesIn (e ∷ k ∷ reports) = k ∷ rulesIn reports
 rulesIn (e ∷ []) = []
 rulesIn [] = []
 
--- the walk over a text that starts at `at`: where it ends, if it does
-abbrev pub onWalk : ℕ → Walked → Pass
-onWalk at (Damaged i) = Ends (at + i)
-onWalk at (Accepted made falls held) = Through
-onWalk at (NoRoom made) = Through
-onWalk at TooLong = Through
-onWalk at (BadRows n) = Through
+-- how often the walk over a frame reports rule k
+abbrev pub reportsIn : Five → ℕ → ℕ → List ℕ → ℕ
+reportsIn b n k frame = among k (rulesIn (reportsOf (b .goto) (b .fall) (b .out) n frame))
 
--- A frame is walked as a text of its own: the tally ends where the walk over it, with any room, is refused with 13, and adds for the rules that it reports.
-pub record AsWalked (b : Five) (n : ℕ) (frame : List ℕ) : Type 0 where
-  pub stops : (at room : ℕ) → framePass (moveBy b n) at frame ≡ onWalk at (walkOf b n frame room)
-  pub reports : frameRules (moveBy b n) frame ≡ rulesIn (reportsOf (b .goto) (b .fall) (b .out) n frame)
+-- for any number that a frame has
+module _ (often : List ℕ → ℕ) where
+  -- the total of frames
+  unfoldable pub timesIn : List (List ℕ) → ℕ
+  timesIn [] = 0
+  timesIn (f ∷ fs) = often f + timesIn fs
 
-abbrev pub Walks : Type 0
-Walks = (b : Five) (n : ℕ) → n ≢ 0 → n ≤ lent b → (frame : List ℕ) → length frame ≤ mostBytes → AsWalked b n frame
+  -- a line's part: its count for each time
+  unfoldable pub partOf : List ℕ → ℕ
+  partOf line = onLine (lineOf line) (λ stack count. count * timesIn (framesOf (take stack line))) 0
+
+  unfoldable pub partsOf : List (List ℕ) → ℕ
+  partsOf [] = 0
+  partsOf (l ∷ ls) = partOf l + partsOf ls
+
+  -- The total over a profile's lines and their frames of the line's count times the frame's number.
+  abbrev pub total : List ℕ → ℕ
+  total profile = partsOf (linesOf profile)
+
+-- ---- over any tables
+
+-- It is refused with 11, 12, 16, 15 and 13 in that order, exactly where the paper says; accepted, each sum is the total of the counts times the reports;
+-- no refusal changes the sums, and no place past the sums is written.
+pub record Refusals (w : Call) : Type 0 where
+  pub too-long : mostBytes < length (w .profile) → Answers w 11 mostBytes
+  pub bad-rows : length (w .profile) ≤ mostBytes → (w .n ≡ 0) ⊎ (lent (w .tables) < w .n) → Answers w 12 (w .n)
+  pub few-sums : length (w .profile) ≤ mostBytes → w .n ≢ 0 → w .n ≤ lent (w .tables) → length (w .sums) < mostRules → Answers w 16 (length (w .sums))
+  pub bad-line : Ready w → (i : ℕ) → FirstBroken (linesOf (w .profile)) i → Answers w 15 (startOf 0 (linesOf (w .profile)) i)
+  pub damaged : Ready w → AllSound (linesOf (w .profile)) → (i j x : ℕ) → FirstLost w i j x
+      → Answers w 13 (startOf 0 (linesOf (w .profile)) i + startOf 0 (framesIn (getD (linesOf (w .profile)) i [])) j + x)
+  pub accepted : Ready w → AllSound (linesOf (w .profile)) → NoneLost w → Answers w 0 0
+  pub sums : Answers w 0 0 → (k : ℕ) → k < mostRules → getD (after w) k 0 ≡ total (reportsIn (w .tables) (w .n) k) (w .profile)
+  pub untouched : numberOf (answer w) ≢ 0 → after w ≡ w .sums
+  pub later : drop mostRules (after w) ≡ drop mostRules (w .sums)
+  pub long : length (after w) ≡ length (w .sums)
+
+abbrev pub Refuses : Type 0
+Refuses = (w : Call) → Refusals w
 
 -- ---- how often a rule occurs
 
@@ -108,6 +152,10 @@ Walks = (b : Five) (n : ℕ) → n ≢ 0 → n ≤ lent b → (frame : List ℕ)
 pub record Number (r : Rules) (text : List ℕ) (k m : ℕ) : Type 0 where
   pub list : List ℕ
   pub lists : Lists (λ e j. (j ≡ k) × Occurs r text e j) list m
+
+-- No two such numbers differ.
+abbrev pub OneNumber : Type 0
+OneNumber = (r : Rules) (text : List ℕ) (k m n : ℕ) → Number r text k m → Number r text k n → m ≡ n
 
 module _ (r : Rules) (k : ℕ) where
   -- how often rule k ends in a text, after what was read before
@@ -118,23 +166,6 @@ module _ (r : Rules) (k : ℕ) where
   -- how often it occurs in a text
   abbrev pub times : List ℕ → ℕ
   times text = timesFrom [] text
-
-  -- and in frames, each a text of its own
-  unfoldable pub timesIn : List (List ℕ) → ℕ
-  timesIn [] = 0
-  timesIn (f ∷ fs) = times f + timesIn fs
-
-  -- a line's part in sum k: its count for each time
-  unfoldable pub partOf : List ℕ → ℕ
-  partOf line = onLine (lineOf line) (λ stack count. count * timesIn (framesOf (take stack line))) 0
-
-  unfoldable pub partsOf : List (List ℕ) → ℕ
-  partsOf [] = 0
-  partsOf (l ∷ ls) = partOf l + partsOf ls
-
-  -- Sum k of a profile: the total over its lines and their frames of the line's count times the occurrences of rule k in the frame.
-  abbrev pub total : List ℕ → ℕ
-  total profile = partsOf (linesOf profile)
 
 -- ---- over the tables of rules
 
@@ -148,9 +179,9 @@ pub record Summed (r : Rules) (w : Call) : Type 0 where
   -- never refused for an entry that no build writes
   pub undamaged : numberOf (answer w) ≢ 13
   -- accepted, where the lines are sound and what comes before them is as it must be
-  pub accepts : Ready w → AllSound (linesOf (w .profile)) → Answers w 0 0
-  -- then sum k is the total of counts times occurrences
-  pub sums : Answers w 0 0 → (k : ℕ) → k < mostRules → getD (after w) k 0 ≡ total r k (w .profile)
+  pub accepts : length (w .profile) ≤ mostBytes → w .n ≤ lent (w .tables) → mostRules ≤ length (w .sums) → AllSound (linesOf (w .profile)) → Answers w 0 0
+  -- then sum k is the total over lines and frames of the line's count times the occurrences of rule k in the frame
+  pub sums : Answers w 0 0 → (k : ℕ) → k < mostRules → getD (after w) k 0 ≡ total (times r k) (w .profile)
   -- where `times` is the number of demand 2's occurrences
   pub occurrences : (k : ℕ) (text : List ℕ) → Number r text k (times r k text)
 

@@ -9,7 +9,8 @@ ghost use Rattle.book.specs.Limits.{mostRules, mostBytes};
 ghost use Rattle.build.specs.Promise.{five};
 ghost use Rattle.walk.specs.Walk.{moveOf, written};
 ghost use Rattle.tally.specs.Lines.{mostCount, upTo, lastOf, countOf, lineOf, checkOf};
-ghost use Rattle.tally.specs.Tally.{Room, After, addAll, framePass, frameRules, stackPass, stackRules, linePass, lineSums, linesPass, linesSums, sumsOf, tallyOf, bufferOf, numberOf, valueOf};
+ghost use Rattle.tally.specs.Tally.{addAll, framePass, frameRules, stackPass, stackRules, linePass, lineSums, linesPass, linesSums, sumsOf, tallyOf, bufferOf, numberOf, valueOf};
+ghost use Rattle.tally.specs.Passes.{Room, After};
 
 const LF: u8 = 10;
 

@@ -7,7 +7,8 @@ use borrow.Author.Needs.{needs}
 use lib.ListN.{length}
 use Rattle.sets.specs.Sets.{members}
 use Rattle.sets.proofs.Members.{members-cons, members-empty, first-lt}
-use Rattle.tally.specs.Tally.{Room, addAll}
+use Rattle.tally.specs.Tally.{addAll}
+use Rattle.tally.specs.Passes.{Room}
 use Rattle.tally.proofs.Adding.{room-less, room-add}
 use Rattle.tally.proofs.Walks.{members-le}
 use Rattle.tally.proofs.add.Statement.{statement}

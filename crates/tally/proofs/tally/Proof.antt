@@ -10,7 +10,8 @@ use Rattle.build.specs.Promise.{five}
 use Rattle.walk.specs.Walk.{moveOf, hasRows}
 use Rattle.tally.specs.declared.Pass.{Pass}
 use Rattle.tally.specs.declared.Pass.the-variants.{Through}
-use Rattle.tally.specs.Tally.{linesPass, sumsOf, answerOf, tallyOf}
+use Rattle.tally.specs.declared.Tallied.the-variants.{Accepted}
+use Rattle.tally.specs.Tally.{linesPass, sumsOf, judged, walked, tallyOf}
 use Rattle.tally.proofs.Adding.{room-zeros}
 use Rattle.tally.proofs.Walks.{lines-length}
 use Rattle.tally.proofs.Answers.{tallied}
@@ -20,17 +21,17 @@ use Rattle.tally.proofs.tally.Tie as tie
 -- the lines' part in the answer, where the pass over them is q
 answered : (k : tie.After-check) (q : Pass) → k .check .result ≡ q →
     let a = k .before .before .before .before .before .before .before .before .before .before .before .before .args in
-    answerOf q (linesPass (moveOf (a .goto .now) (a .fall .now) (a .out .now) (a .n)) (a .profile .now)) ≡ tallyOf (five (a .goto .now) (a .fall .now) (a .held .now) (a .live .now) (a .out .now)) (a .n) (a .profile .now) (length (a .sums .now))
+    judged q (walked (linesPass (moveOf (a .goto .now) (a .fall .now) (a .out .now) (a .n)) (a .profile .now)) Accepted) ≡ tallyOf (five (a .goto .now) (a .fall .now) (a .held .now) (a .live .now) (a .out .now)) (a .n) (a .profile .now) (length (a .sums .now))
 answered k q e =
     let a = k .before .before .before .before .before .before .before .before .before .before .before .before .args in
     let rows : hasRows (five (a .goto .now) (a .fall .now) (a .held .now) (a .live .now) (a .out .now)) (a .n) ≡ true = sym (k .before .before .before .has-rows .ensures) ∙ not-false _ (k .before .before .if2 .left) in
     tallied (five (a .goto .now) (a .fall .now) (a .held .now) (a .live .now) (a .out .now)) (a .n) _ _ (k .before .before .before .before .if1 .left) rows (k .before .if3 .left) (k .check .ensures) e
 
 -- the walks' part in it, where their pass is q
-walked : (k : tie.After-walk-lines) (q : Pass) → k .walk-lines .result ≡ q →
+passed : (k : tie.After-walk-lines) (q : Pass) → k .walk-lines .result ≡ q →
     let a = k .before .before .before .before .before .before .before .before .before .before .before .before .before .before .before .before .args in
-    answerOf Through q ≡ tallyOf (five (a .goto .now) (a .fall .now) (a .held .now) (a .live .now) (a .out .now)) (a .n) (a .profile .now) (length (a .sums .now))
-walked k q e = ap (answerOf Through) (sym e ∙ k .walk-lines .ensures .0) ∙ answered (k .before .before .before .before) _ (k .before .before .enum-told .given .1)
+    walked q Accepted ≡ tallyOf (five (a .goto .now) (a .fall .now) (a .held .now) (a .live .now) (a .out .now)) (a .n) (a .profile .now) (length (a .sums .now))
+passed k q e = ap (λ x. walked x Accepted) (sym e ∙ k .walk-lines .ensures .0) ∙ answered (k .before .before .before .before) _ (k .before .before .enum-told .given .1)
 
 -- and the sums that they leave
 summed : (k : tie.After-walk-lines) → k .walk-lines .result ≡ Through →
@@ -81,7 +82,7 @@ returns-4 : tie.Need-returns-4
 returns-4 c = (answered (c .before .before .before) _ (c .before .at .given .1), refl)
 
 returns-5 : tie.Need-returns-5
-returns-5 c = (walked (c .before .before .before) _ (c .before .at2 .given .1), refl)
+returns-5 c = (passed (c .before .before .before) _ (c .before .at2 .given .1), refl)
 
 same-length : tie.Need-same-length
 same-length c = search needs
@@ -90,7 +91,7 @@ returns-6 : tie.Need-returns-6
 returns-6 c =
     let k = c .before .before .before .before .before .before .before in
     let e = c .before .before .before .before .before .enum-told2 .given .1 in
-    (walked k _ e, rw (summed k e) at (c .before .before .store .ensures))
+    (passed k _ e, rw (summed k e) at (c .before .before .store .ensures))
 
 pub tally-spec : {M : Type 1} → statement M
 tally-spec =

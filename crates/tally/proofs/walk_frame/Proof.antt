@@ -11,7 +11,8 @@ use Rattle.book.specs.Limits.{mostRules}
 use Rattle.walk.specs.declared.Moved.{Moved}
 use Rattle.walk.specs.declared.Moved.the-variants.{Lost}
 use Rattle.walk.specs.Walk.{moveOf}
-use Rattle.tally.specs.Tally.{Room, addAll, passFrom, rulesFrom, framePass, frameRules}
+use Rattle.tally.specs.Tally.{addAll, passFrom, rulesFrom, framePass, frameRules}
+use Rattle.tally.specs.Passes.{Room}
 use Rattle.tally.proofs.Adding.{add-append, room-less, room-add}
 use Rattle.tally.proofs.Walks.{members-le, frame-end, frame-move, rules-end, rules-move}
 use Rattle.tally.proofs.walk_frame.Statement.{statement}

@@ -9,7 +9,8 @@ use Rattle.book.specs.Limits.{mostRules}
 use Rattle.walk.specs.Walk.{moveOf}
 use Rattle.tally.specs.declared.Pass.{Pass}
 use Rattle.tally.specs.Lines.{linesOf, onPass, passOver}
-use Rattle.tally.specs.Tally.{Room, linePass, sumsOver, linesPass, linesSums}
+use Rattle.tally.specs.Tally.{linePass, sumsOver, linesPass, linesSums}
+use Rattle.tally.specs.Passes.{Room}
 use Rattle.tally.proofs.Lines.{piece, piece-length, lines-pass, lines-end}
 use Rattle.tally.proofs.Adding.{room-less}
 use Rattle.tally.proofs.Walks.{line-room, lines-sums, lines-sums-end}

@@ -10,7 +10,8 @@ use Rattle.book.specs.Limits.{mostRules}
 use Rattle.walk.specs.Walk.{moveOf}
 use Rattle.tally.specs.declared.Pass.{Pass}
 use Rattle.tally.specs.Lines.{framesOf, onPass, passOver}
-use Rattle.tally.specs.Tally.{Room, addAll, framePass, frameRules, rulesOver, stackPass, stackRules}
+use Rattle.tally.specs.Tally.{addAll, framePass, frameRules, rulesOver, stackPass, stackRules}
+use Rattle.tally.specs.Passes.{Room}
 use Rattle.tally.proofs.Lines.{piece, piece-length}
 use Rattle.tally.proofs.Adding.{add-append, room-less, room-add}
 use Rattle.tally.proofs.Walks.{frame-le, stack-rules-step, stack-pass, stack-end, stack-rules-end}

@@ -8,9 +8,9 @@ ghost use lib.ListN.{length};
 ghost use Rattle.inputs.specs.Inputs.{Fits, BothFit};
 
 // The room for a book and for a text: one byte more than each may have, so that an input which fills it is too long.
-pub const BOOK_ROOM: usize = 16385;
+pub const BOOK_ROOM: usize = 16384 + 1;
 
-pub const TEXT_ROOM: usize = 32769;
+pub const TEXT_ROOM: usize = 32768 + 1;
 
 // The rows that a program lends, and the goto entries that these are.
 pub const ROWS: usize = 120;

@@ -33,7 +33,7 @@ startOf at (p ∷ ps) (suc i) = startOf (at + length p + 1) ps i
 -- The lines of a profile are without LF, and with an LF between each two they are the profile, but for an LF that ends the last. It is missing only
 -- where the last line is not empty, or where there is none.
 pub record Lines (profile : List ℕ) : Type 0 where
-  pub whole : ((join lf (linesOf profile) ≡ profile) × LastSome (linesOf profile)) ⊎ (join lf (linesOf profile) ++ lf ∷ [] ≡ profile) × (1 ≤ length (linesOf profile))
+  pub whole : ((join lf (linesOf profile) ≡ profile) × LastSome (linesOf profile)) ⊎ ((join lf (linesOf profile) ++ lf ∷ [] ≡ profile) × (1 ≤ length (linesOf profile)))
   pub without : Without lf (linesOf profile)
   -- line i is in the profile where it starts
   pub starts : (i : ℕ) → i < length (linesOf profile) → take (length (getD (linesOf profile) i [])) (drop (startOf 0 (linesOf profile) i) profile) ≡ getD (linesOf profile) i []

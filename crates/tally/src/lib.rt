@@ -118,7 +118,7 @@ fn digit(byte: u8) -> u64
     (byte - 48) as u64
 }
 
-// Reads a count.
+// Reads a count: `0`, or 1 to 10 digits without a leading zero, at most the largest.
 fn read_count(digits: &[u8]) -> Count
     ensures { λ r. ⌜ r ≡ countOf (now (digits .entry)) ⌝ }
 {
@@ -153,6 +153,7 @@ fn read_count(digits: &[u8]) -> Count
     Count::Is(value)
 }
 
+// Reads a line: the stack is all in front of its last space, the count all behind.
 fn read_line(line: &[u8]) -> Line
     ensures { λ r. ⌜ r ≡ lineOf (now (line .entry)) ⌝ }
 {
@@ -239,7 +240,7 @@ fn walk_frame(
     Pass::Through
 }
 
-// Walks each frame of a stack that starts at `base`.
+// Walks each frame of a stack that starts at `base`. An empty one at the end has no byte to walk, and is not come to.
 fn walk_stack(
     goto: &[u16],
     fall: &[u16],

@@ -1,0 +1,70 @@
+-- `cases::judge::is_known` is safe and ends. `i` comes nearer to its end. Assumes nothing.
+use Prim.Native.Nat.{_-_, _≤_}
+use borrow.Author.Needs.{needs}
+use Rattle.cases.proofs.judge.is_known.Statement.{statement}
+use Rattle.cases.proofs.judge.is_known.Tie as tie
+
+abbrev Inv-loop : tie.InvT-loop
+Inv-loop bytes body size p i₀ i-end i = 0 ≤ i
+
+abbrev μ-loop : tie.MeasureT-loop
+μ-loop bytes body size p i₀ i-end i = i-end - i
+
+loop-holds : tie.Need-loop-holds Inv-loop μ-loop
+loop-holds c = search needs
+
+plus-requires : tie.Need-plus-requires Inv-loop μ-loop
+plus-requires c κs = search needs
+
+plus-requires-2 : tie.Need-plus-requires-2 Inv-loop μ-loop
+plus-requires-2 c κs = search needs
+
+at8-requires : tie.Need-at8-requires Inv-loop μ-loop
+at8-requires c κs = search needs
+
+plus-requires-3 : tie.Need-plus-requires-3 Inv-loop μ-loop
+plus-requires-3 c κs = search needs
+
+plus-requires-4 : tie.Need-plus-requires-4 Inv-loop μ-loop
+plus-requires-4 c κs = search needs
+
+plus-requires-5 : tie.Need-plus-requires-5 Inv-loop μ-loop
+plus-requires-5 c κs = search needs
+
+at8-requires-2 : tie.Need-at8-requires-2 Inv-loop μ-loop
+at8-requires-2 c κs = search needs
+
+returns : tie.Need-returns Inv-loop μ-loop
+returns c = search needs
+
+add-i : tie.Need-add-i Inv-loop μ-loop
+add-i c = search needs
+
+loop-less : tie.Need-loop-less Inv-loop μ-loop
+loop-less c = search needs
+
+loop-again : tie.Need-loop-again Inv-loop μ-loop
+loop-again c = search needs
+
+returns-2 : tie.Need-returns-2 Inv-loop μ-loop
+returns-2 c = search needs
+
+pub is-known-spec : {M : Type 1} → statement M
+is-known-spec =
+    tie.close
+    (tie.spec
+    Inv-loop
+    μ-loop
+    loop-holds
+    plus-requires
+    plus-requires-2
+    at8-requires
+    plus-requires-3
+    plus-requires-4
+    plus-requires-5
+    at8-requires-2
+    returns
+    add-i
+    loop-less
+    loop-again
+    returns-2)

@@ -1,0 +1,66 @@
+-- `cases::profile::add` is safe and ends. `i` comes nearer to its end. Assumes nothing.
+use Prim.Native.Nat.{_-_, _≤_}
+use borrow.Author.Needs.{needs}
+use Rattle.cases.proofs.profile.add.Statement.{statement}
+use Rattle.cases.proofs.profile.add.Tie as tie
+
+abbrev Inv-loop : tie.InvT-loop
+Inv-loop sums₀ pairs reports count i₀ sums i = 0 ≤ i
+
+abbrev μ-loop : tie.MeasureT-loop
+μ-loop sums₀ pairs reports count i₀ sums i = reports - i
+
+loop-holds : tie.Need-loop-holds Inv-loop μ-loop
+loop-holds c = search needs
+
+plus-requires : tie.Need-plus-requires Inv-loop μ-loop
+plus-requires c κs = search needs
+
+plus-requires-2 : tie.Need-plus-requires-2 Inv-loop μ-loop
+plus-requires-2 c κs = search needs
+
+at32-requires : tie.Need-at32-requires Inv-loop μ-loop
+at32-requires c κs = search needs
+
+cast-k : tie.Need-cast-k Inv-loop μ-loop
+cast-k c = search needs
+
+at64-requires : tie.Need-at64-requires Inv-loop μ-loop
+at64-requires c κs = search needs
+
+wrapping-add-u64-requires : tie.Need-wrapping-add-u64-requires Inv-loop μ-loop
+wrapping-add-u64-requires c κs = search needs
+
+put64-requires : tie.Need-put64-requires Inv-loop μ-loop
+put64-requires c κs = search needs
+
+add-i : tie.Need-add-i Inv-loop μ-loop
+add-i c = search needs
+
+loop-less : tie.Need-loop-less Inv-loop μ-loop
+loop-less c = search needs
+
+loop-again : tie.Need-loop-again Inv-loop μ-loop
+loop-again c = search needs
+
+returns : tie.Need-returns Inv-loop μ-loop
+returns c = search needs
+
+pub add-spec : {M : Type 1} → statement M
+add-spec =
+    tie.close
+    (tie.spec
+    Inv-loop
+    μ-loop
+    loop-holds
+    plus-requires
+    plus-requires-2
+    at32-requires
+    cast-k
+    at64-requires
+    wrapping-add-u64-requires
+    put64-requires
+    add-i
+    loop-less
+    loop-again
+    returns)

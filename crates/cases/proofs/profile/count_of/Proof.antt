@@ -1,0 +1,54 @@
+-- `cases::profile::count_of` is safe and ends. `i` comes nearer to its end. Assumes nothing.
+use Prim.Native.Nat.{_-_, _≤_}
+use borrow.Author.Needs.{needs}
+use Rattle.cases.proofs.profile.count_of.Statement.{statement}
+use Rattle.cases.proofs.profile.count_of.Tie as tie
+
+abbrev Inv-loop : tie.InvT-loop
+Inv-loop profile from to count₀ i₀ count i = 0 ≤ i
+
+abbrev μ-loop : tie.MeasureT-loop
+μ-loop profile from to count₀ i₀ count i = to - i
+
+loop-holds : tie.Need-loop-holds Inv-loop μ-loop
+loop-holds c = search needs
+
+mul-count : tie.Need-mul-count Inv-loop μ-loop
+mul-count c = search needs
+
+at8-requires : tie.Need-at8-requires Inv-loop μ-loop
+at8-requires c κs = search needs
+
+above-requires : tie.Need-above-requires Inv-loop μ-loop
+above-requires c κs = search needs
+
+add-count : tie.Need-add-count Inv-loop μ-loop
+add-count c = search needs
+
+add-i : tie.Need-add-i Inv-loop μ-loop
+add-i c = search needs
+
+loop-less : tie.Need-loop-less Inv-loop μ-loop
+loop-less c = search needs
+
+loop-again : tie.Need-loop-again Inv-loop μ-loop
+loop-again c = search needs
+
+returns : tie.Need-returns Inv-loop μ-loop
+returns c = search needs
+
+pub count-of-spec : {M : Type 1} → statement M
+count-of-spec =
+    tie.close
+    (tie.spec
+    Inv-loop
+    μ-loop
+    loop-holds
+    mul-count
+    at8-requires
+    above-requires
+    add-count
+    add-i
+    loop-less
+    loop-again
+    returns)

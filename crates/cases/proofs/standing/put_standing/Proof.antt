@@ -1,0 +1,58 @@
+-- `cases::standing::put_standing` is safe and ends. `j` comes nearer to its end. Assumes nothing.
+use Prim.Native.Nat.{_-_, _≤_}
+use borrow.Author.Needs.{needs}
+use Rattle.cases.proofs.standing.put_standing.Statement.{statement}
+use Rattle.cases.proofs.standing.put_standing.Tie as tie
+
+abbrev Inv-loop : tie.InvT-loop
+Inv-loop levels₀ to now j₀ levels j = 0 ≤ j
+
+abbrev μ-loop : tie.MeasureT-loop
+μ-loop levels₀ to now j₀ levels j = 8 - j
+
+loop-holds : tie.Need-loop-holds Inv-loop μ-loop
+loop-holds c = search needs
+
+times8-requires : tie.Need-times8-requires Inv-loop μ-loop
+times8-requires c κs = search needs
+
+plus-requires : tie.Need-plus-requires Inv-loop μ-loop
+plus-requires c κs = search needs
+
+mul-put64 : tie.Need-mul-put64 Inv-loop μ-loop
+mul-put64 c = search needs
+
+element-copy-out-put64 : tie.Need-element-copy-out-put64 Inv-loop μ-loop
+element-copy-out-put64 c = search needs
+
+put64-requires : tie.Need-put64-requires Inv-loop μ-loop
+put64-requires c κs = search needs
+
+add-j : tie.Need-add-j Inv-loop μ-loop
+add-j c = search needs
+
+loop-less : tie.Need-loop-less Inv-loop μ-loop
+loop-less c = search needs
+
+loop-again : tie.Need-loop-again Inv-loop μ-loop
+loop-again c = search needs
+
+returns : tie.Need-returns Inv-loop μ-loop
+returns c = search needs
+
+pub put-standing-spec : {M : Type 1} → statement M
+put-standing-spec =
+    tie.close
+    (tie.spec
+    Inv-loop
+    μ-loop
+    loop-holds
+    times8-requires
+    plus-requires
+    mul-put64
+    element-copy-out-put64
+    put64-requires
+    add-j
+    loop-less
+    loop-again
+    returns)

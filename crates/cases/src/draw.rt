@@ -1,0 +1,219 @@
+// Books and texts out of the run's sequence.
+use crate::leaf::above;
+use crate::leaf::at8;
+use crate::leaf::plus;
+use crate::leaf::put8;
+use crate::report::draw;
+use crate::report::go_on_from;
+use crate::report::letter;
+use crate::report::restart;
+use crate::report::seed_of;
+
+// ---- books
+
+// What is drawn of a book so far: its length, and its pictures.
+pub struct Drawn {
+    pub size: usize,
+    pub pictures: usize,
+}
+
+fn header(bytes: &mut [u8; 512], from: usize, tag: usize, size: usize) {
+    put8(bytes, from, tag);
+    put8(bytes, plus(from, 1), size / 256);
+    put8(bytes, plus(from, 2), size);
+}
+
+// The picture of the letters whose owner is `number`, or nothing where there is none.
+fn picture(bytes: &mut [u8; 512], drawn: Drawn, owner: &[u8; 8], number: usize) -> Drawn {
+    let mut size = 0;
+    for l in 0..5usize {
+        if at8(owner, l) == number {
+            put8(bytes, plus(plus(drawn.size, 3), size), at8(b"1;abc", l));
+            size = plus(size, 1);
+        }
+    }
+    if size == 0 {
+        return drawn;
+    }
+    header(bytes, drawn.size, 0x50, size);
+    Drawn {
+        size: plus(plus(drawn.size, 3), size),
+        pictures: plus(drawn.pictures, 1),
+    }
+}
+
+fn symbol(bytes: &mut [u8; 512], place: usize, run: &mut [u64; 256], pictures: usize) {
+    if 0 < pictures && draw(run, 3) == 0 {
+        put8(bytes, place, 1);
+        put8(bytes, plus(place, 1), draw(run, pictures));
+    } else {
+        put8(bytes, place, 0);
+        put8(bytes, plus(place, 1), letter(run));
+    }
+}
+
+// A rule of so many symbols. It has a sequence of its own: two rules of one sequence are equal, or one opens the other.
+fn rule(bytes: &mut [u8; 512], drawn: Drawn, run: &mut [u64; 256], own: u64, size: usize) -> Drawn {
+    let seed = seed_of(run);
+    restart(run, own);
+    header(bytes, drawn.size, 0x52, plus(size, size));
+    symbols(bytes, plus(drawn.size, 3), run, drawn.pictures, size);
+    go_on_from(run, seed);
+    Drawn {
+        size: plus(plus(drawn.size, 3), plus(size, size)),
+        pictures: drawn.pictures,
+    }
+}
+
+fn symbols(bytes: &mut [u8; 512], body: usize, run: &mut [u64; 256], pictures: usize, size: usize) {
+    for j in 0..size {
+        symbol(bytes, plus(body, plus(j, j)), run, pictures);
+    }
+}
+
+// Each letter's owner: one of `pictures`, counted from 1, or none.
+fn owners(owner: &mut [u8; 8], run: &mut [u64; 256], pictures: usize) {
+    for l in 0..5usize {
+        put8(owner, l, draw(run, plus(pictures, 1)));
+    }
+}
+
+// A book of up to three pictures, with rules before and after them, and its length. It is sound, unless no rule came.
+pub fn book(bytes: &mut [u8; 512], run: &mut [u64; 256]) -> usize {
+    let pictures = draw(run, 4);
+    let mut owner = [0u8; 8];
+    owners(&mut owner, run, pictures);
+    let mut drawn = Drawn {
+        size: 0,
+        pictures: 0,
+    };
+    let mut own = draw(run, 1000) as u64;
+    let mut next = 1;
+    for _ in 0..plus(plus(1, pictures), draw(run, 6)) {
+        if next <= pictures && draw(run, 2) == 0 {
+            drawn = picture(bytes, drawn, &owner, next);
+            next = plus(next, 1);
+        } else {
+            own = other(own, run);
+            let size = plus(1, draw(run, 5));
+            drawn = rule(bytes, drawn, run, own, size);
+        }
+    }
+    drawn.size
+}
+
+// One time in four the sequence of the rule before.
+fn other(own: u64, run: &mut [u64; 256]) -> u64 {
+    if draw(run, 4) == 0 {
+        own
+    } else {
+        draw(run, 1000) as u64
+    }
+}
+
+// ---- books at the limits
+
+// So many pictures of one byte each, from the byte a on.
+fn many_pictures(bytes: &mut [u8; 512], count: usize) -> Drawn {
+    let mut size = 0;
+    for p in 0..count {
+        header(bytes, size, 0x50, 1);
+        put8(bytes, plus(size, 3), plus(0x61, p));
+        size = plus(size, 4);
+    }
+    Drawn {
+        size,
+        pictures: count,
+    }
+}
+
+fn many_rules(bytes: &mut [u8; 512], before: Drawn, run: &mut [u64; 256], count: usize) -> Drawn {
+    let mut drawn = before;
+    for _ in 0..count {
+        let own = draw(run, 1000) as u64;
+        drawn = rule(bytes, drawn, run, own, 1);
+    }
+    drawn
+}
+
+// Near or past one of the limits: 16 pictures, 64 rules, 64 symbols.
+pub fn limits(bytes: &mut [u8; 512], run: &mut [u64; 256]) -> usize {
+    let kind = draw(run, 3);
+    let count = draw(run, 3);
+    let none = Drawn {
+        size: 0,
+        pictures: 0,
+    };
+    if kind == 0 {
+        let pictures = many_pictures(bytes, plus(15, count));
+        rule(bytes, pictures, run, 1, 4).size
+    } else if kind == 1 {
+        many_rules(bytes, none, run, plus(63, count)).size
+    } else {
+        rule(bytes, none, run, 1, plus(63, count)).size
+    }
+}
+
+// ---- spoiled books
+
+fn odd_byte(run: &mut [u64; 256]) -> usize {
+    at8(b"\x00\x01\x02\x03\x50\x51\x52\xffabc1;", draw(run, 13))
+}
+
+// A byte put in at `place`.
+fn insert(bytes: &mut [u8; 512], size: usize, place: usize, byte: usize) {
+    for i in 0..above(size, place) {
+        let from = above(above(size, i), 1);
+        let moved = at8(bytes, from);
+        put8(bytes, plus(from, 1), moved);
+    }
+    put8(bytes, place, byte);
+}
+
+fn odd_body(bytes: &mut [u8; 512], body: usize, size: usize, run: &mut [u64; 256]) {
+    for i in 0..size {
+        put8(bytes, plus(body, i), odd_byte(run));
+    }
+}
+
+// A field more, of a short and odd body.
+fn odd_field(bytes: &mut [u8; 512], size: usize, run: &mut [u64; 256]) -> usize {
+    let body = draw(run, 5);
+    header(
+        bytes,
+        size,
+        at8(b"\x50\x52\x50\x52\x51", draw(run, 5)),
+        body,
+    );
+    odd_body(bytes, plus(size, 3), body, run);
+    plus(plus(size, 3), body)
+}
+
+// A book with a byte changed, cut short, with a byte or a field more; and its length.
+pub fn spoil(bytes: &mut [u8; 512], size: usize, run: &mut [u64; 256]) -> usize {
+    let place = draw(run, size);
+    match draw(run, 4) {
+        0 => {
+            put8(bytes, place, odd_byte(run));
+            size
+        }
+        1 => place,
+        2 => {
+            let byte = odd_byte(run);
+            insert(bytes, size, place, byte);
+            plus(size, 1)
+        }
+        _ => odd_field(bytes, size, run),
+    }
+}
+
+// ---- texts
+
+// A text of up to 24 letters, and its length.
+pub fn text(bytes: &mut [u8; 32], run: &mut [u64; 256]) -> usize {
+    let size = draw(run, 25);
+    for i in 0..size {
+        put8(bytes, i, letter(run));
+    }
+    size
+}

@@ -1,0 +1,168 @@
+// The second reader: what the paper says of a book's bytes, field by field, with the place and the size of each body.
+use crate::leaf::above;
+use crate::leaf::at;
+use crate::leaf::at8;
+use crate::leaf::plus;
+use crate::leaf::put;
+
+pub struct Judged {
+    pub number: usize,
+    pub value: usize,
+    pub pictures: usize,
+    pub rules: usize,
+}
+
+// Place 2p of `pictures` is where picture p's body begins, the next one its size; so for the rules.
+pub fn judge(bytes: &[u8], pictures: &mut [usize; 64], rules: &mut [usize; 256]) -> Judged {
+    let mut from = 0;
+    let mut p = 0;
+    let mut k = 0;
+    for _ in 0..bytes.len() {
+        if bytes.len() <= from {
+            break;
+        }
+        let number = fault(bytes, from, pictures, p, k);
+        if number != 0 {
+            return refused(number, from);
+        }
+        let body = plus(from, 3);
+        let size = size_at(bytes, from);
+        if at8(bytes, from) == 0x50 {
+            note(pictures, p, body, size);
+            p = plus(p, 1);
+        } else {
+            note(rules, k, body, size);
+            k = plus(k, 1);
+        }
+        from = plus(body, size);
+    }
+    if k == 0 {
+        return refused(9, bytes.len());
+    }
+    Judged {
+        number: 0,
+        value: 0,
+        pictures: p,
+        rules: k,
+    }
+}
+
+fn refused(number: usize, value: usize) -> Judged {
+    Judged {
+        number,
+        value,
+        pictures: 0,
+        rules: 0,
+    }
+}
+
+fn note(places: &mut [usize], i: usize, body: usize, size: usize) {
+    put(places, plus(i, i), body);
+    put(places, plus(plus(i, i), 1), size);
+}
+
+// Where body i begins, and its size.
+pub fn body_of(places: &[usize], i: usize) -> usize {
+    at(places, plus(i, i))
+}
+
+pub fn size_of(places: &[usize], i: usize) -> usize {
+    at(places, plus(plus(i, i), 1))
+}
+
+fn size_at(bytes: &[u8], from: usize) -> usize {
+    256 * at8(bytes, plus(from, 1)) + at8(bytes, plus(from, 2))
+}
+
+// The number with which the field at `from` is refused, or 0.
+fn fault(bytes: &[u8], from: usize, pictures: &[usize], p: usize, k: usize) -> usize {
+    let left = above(bytes.len(), from);
+    let size = size_at(bytes, from);
+    if left < 3 || left < plus(3, size) {
+        return 1;
+    }
+    let tag = at8(bytes, from);
+    if tag == 0x50 {
+        picture_fault(bytes, plus(from, 3), size, pictures, p)
+    } else if tag == 0x52 {
+        rule_fault(bytes, plus(from, 3), size, p, k)
+    } else {
+        2
+    }
+}
+
+fn picture_fault(bytes: &[u8], body: usize, size: usize, pictures: &[usize], p: usize) -> usize {
+    if p == 16 {
+        return 5;
+    }
+    if size == 0 || !ascends(bytes, body, size) {
+        return 3;
+    }
+    if shares(bytes, body, size, pictures, p) {
+        return 4;
+    }
+    0
+}
+
+fn ascends(bytes: &[u8], body: usize, size: usize) -> bool {
+    for i in 0..above(size, 1) {
+        if at8(bytes, plus(plus(body, 1), i)) <= at8(bytes, plus(body, i)) {
+            return false;
+        }
+    }
+    true
+}
+
+fn shares(bytes: &[u8], body: usize, size: usize, pictures: &[usize], p: usize) -> bool {
+    for i in 0..size {
+        if taken(bytes, at8(bytes, plus(body, i)), pictures, p) {
+            return true;
+        }
+    }
+    false
+}
+
+// Whether one of the first p pictures has the byte.
+fn taken(bytes: &[u8], byte: usize, pictures: &[usize], p: usize) -> bool {
+    for q in 0..p {
+        if is_member(bytes, byte, pictures, q) {
+            return true;
+        }
+    }
+    false
+}
+
+pub fn is_member(bytes: &[u8], byte: usize, pictures: &[usize], q: usize) -> bool {
+    let body = body_of(pictures, q);
+    for i in 0..size_of(pictures, q) {
+        if at8(bytes, plus(body, i)) == byte {
+            return true;
+        }
+    }
+    false
+}
+
+fn rule_fault(bytes: &[u8], body: usize, size: usize, p: usize, k: usize) -> usize {
+    if k == 64 {
+        return 8;
+    }
+    if 128 < size {
+        return 7;
+    }
+    if size == 0 || size % 2 == 1 || !is_known(bytes, body, size, p) {
+        return 6;
+    }
+    0
+}
+
+// Whether each symbol is a byte or one of the first p pictures.
+fn is_known(bytes: &[u8], body: usize, size: usize, p: usize) -> bool {
+    for i in 0..size / 2 {
+        let kind = at8(bytes, plus(body, plus(i, i)));
+        let second = at8(bytes, plus(plus(body, 1), plus(i, i)));
+        if 1 < kind || (kind == 1 && p <= second) {
+            return false;
+        }
+    }
+    true
+}

@@ -1,0 +1,68 @@
+// Books, texts and tables by the thousand, drawn from a fixed sequence: what the proved reader, builder and walk answer is compared with a
+// second matcher, which is written from the paper's words alone and shares nothing with them. It catches a wrong definition, which no proof does.
+mod compare;
+mod draw;
+mod fitting;
+mod folded;
+mod judge;
+mod leaf;
+mod long;
+mod profile;
+mod record;
+mod report;
+mod standing;
+mod tables;
+mod tallies;
+mod walks;
+
+use report::say;
+use report::say_numbers;
+
+const BOOKS: u64 = 4000;
+
+fn main() {
+    let mut run = [0u64; 256];
+    for number in 0..BOOKS {
+        one(&mut run, number);
+    }
+    long::texts(&mut run);
+    tell(&run);
+}
+
+// The book of a number, sound or spoiled or near a limit.
+fn one(run: &mut [u64; 256], number: u64) {
+    report::begin(run, number);
+    let mut bytes = [0u8; 512];
+    let kind = report::draw(run, 8);
+    let mut size = if kind == 7 {
+        draw::limits(&mut bytes, run)
+    } else {
+        draw::book(&mut bytes, run)
+    };
+    if kind < 3 {
+        size = draw::spoil(&mut bytes, size, run);
+    }
+    compare::book(run, &bytes, size);
+}
+
+fn tell(run: &[u64; 256]) {
+    say_numbers(run, b"books read, by number", report::READ);
+    say_numbers(run, b"books built, by number", report::BUILT);
+    say(run, b"rows compared", report::ROWS);
+    say_numbers(run, b"texts walked, by number", report::WALKED);
+    say_numbers(run, b"long texts walked, by number", report::LONG);
+    say_numbers(
+        run,
+        b"texts walked over damaged tables, by number",
+        report::DAMAGED,
+    );
+    say_numbers(run, b"profiles tallied, by number", report::TALLIED);
+    say_numbers(
+        run,
+        b"profiles tallied over damaged tables, by number",
+        report::SPOILED,
+    );
+    say(run, b"reports", report::REPORTS);
+    say(run, b"fallbacks", report::FALLS);
+    say(run, b"differences", report::DIFFERENCES);
+}

@@ -1,0 +1,187 @@
+// Tallies over built tables and over damaged ones.
+use crate::fitting::Found;
+use crate::folded;
+use crate::leaf::at64;
+use crate::leaf::plus;
+use crate::leaf::up_to;
+use crate::profile;
+use crate::report;
+use crate::report::count;
+use crate::report::draw;
+use crate::report::expect;
+use crate::tables;
+ghost use Prim.Native.Nat.{_≤_};
+
+// The places of the greatest sums buffer, and what they hold before.
+const PLACES: usize = 70;
+
+const OLD: u64 = 9;
+
+// Tallies the first `size` of the bytes, and compares with the answer and the sums that are meant, unless the profile is refused before.
+pub fn tally_text(
+    run: &mut [u64; 256],
+    goto: &[u16],
+    fall: &[u16],
+    held: &[u8],
+    live: &[u64],
+    out: &[u64],
+    n: usize,
+    bytes: &[u8],
+    size: usize,
+    found: Found,
+    sums: &[u64; 64],
+    kind: usize,
+) {
+    let places = places_for(run);
+    let lent = tables::rows_lent(goto, fall, held, live, out);
+    let meant = either(profile::refusal(lent, n, bytes, size, places), found);
+    let end = up_to(size, bytes.len());
+    let mut buffer = [OLD; 70];
+    let tallied = tally::tally(
+        goto,
+        fall,
+        held,
+        live,
+        out,
+        n,
+        &bytes[0..end],
+        &mut buffer[0..places],
+    );
+    count(run, plus(kind, meant.number), 1);
+    expect(run, tallied.number() == meant.number, b"number of a tally");
+    expect(run, tallied.value() == meant.value, b"value of a tally");
+    expect(
+        run,
+        is_summed(meant.number == 0, sums, &buffer),
+        b"sums of a tally",
+    );
+}
+
+// Mostly 64 or more.
+fn places_for(run: &mut [u64; 256]) -> usize
+    ensures { λ r. ⌜ r ≤ 70 ⌝ }
+{
+    if draw(run, 8) == 0 {
+        up_to(draw(run, 64), PLACES)
+    } else {
+        up_to(plus(64, draw(run, 7)), PLACES)
+    }
+}
+
+fn either(refusal: Found, found: Found) -> Found {
+    if refusal.number == 0 {
+        tables::refused(
+            found.number,
+            if found.number == 0 { 0 } else { found.value },
+        )
+    } else {
+        refusal
+    }
+}
+
+// The sums in the first 64 places of an accepted tally, and what was there before in all others.
+fn is_summed(is_accepted: bool, sums: &[u64; 64], buffer: &[u64; 70]) -> bool {
+    for i in 0..70usize {
+        let meant = if is_accepted && i < 64 {
+            at64(sums, i)
+        } else {
+            OLD
+        };
+        if buffer[i] != meant {
+            return false;
+        }
+    }
+    true
+}
+
+pub fn built(
+    run: &mut [u64; 256],
+    fit: &[u64; 2064],
+    goto: &[u16],
+    fall: &[u16],
+    held: &[u8],
+    live: &[u64],
+    out: &[u64],
+    rows: usize,
+) {
+    let mut bytes = [0u8; 256];
+    let size = folded::profile(&mut bytes, run);
+    over_rules(run, fit, goto, fall, held, live, out, rows, &bytes, size);
+}
+
+fn over_rules(
+    run: &mut [u64; 256],
+    fit: &[u64; 2064],
+    goto: &[u16],
+    fall: &[u16],
+    held: &[u8],
+    live: &[u64],
+    out: &[u64],
+    rows: usize,
+    bytes: &[u8; 256],
+    size: usize,
+) {
+    let mut frames = [0u64; 1024];
+    let number = profile::frames_of(bytes, size, &mut frames);
+    let mut sums = [0u64; 64];
+    profile::by_rules(fit, bytes, &frames, number, &mut sums);
+    tally_text(
+        run,
+        goto,
+        fall,
+        held,
+        live,
+        out,
+        rows,
+        bytes,
+        size,
+        tables::refused(0, 0),
+        &sums,
+        report::TALLIED,
+    );
+}
+
+pub fn damaged(
+    run: &mut [u64; 256],
+    goto: &[u16],
+    fall: &[u16],
+    held: &[u8],
+    live: &[u64],
+    out: &[u64],
+    n: usize,
+) {
+    let mut bytes = [0u8; 256];
+    let size = folded::profile(&mut bytes, run);
+    over_tables(run, goto, fall, held, live, out, n, &bytes, size);
+}
+
+fn over_tables(
+    run: &mut [u64; 256],
+    goto: &[u16],
+    fall: &[u16],
+    held: &[u8],
+    live: &[u64],
+    out: &[u64],
+    n: usize,
+    bytes: &[u8; 256],
+    size: usize,
+) {
+    let mut frames = [0u64; 1024];
+    let number = profile::frames_of(bytes, size, &mut frames);
+    let mut sums = [0u64; 64];
+    let found = profile::by_tables(goto, fall, held, out, n, bytes, &frames, number, &mut sums);
+    tally_text(
+        run,
+        goto,
+        fall,
+        held,
+        live,
+        out,
+        n,
+        bytes,
+        size,
+        found,
+        &sums,
+        report::SPOILED,
+    );
+}

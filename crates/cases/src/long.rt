@@ -1,5 +1,5 @@
-// The longest text that is walked or tallied, and one byte more. The book is the rule `a`, `b`; the text is a, over and over: as a profile it is
-// one line that has no count.
+// The longest text that is walked or tallied and one byte more, and the largest count and one more. The book is the rule `a`, `b`; the text is a, over
+// and over: as a profile it is one line that has no count.
 use crate::fitting;
 use crate::judge;
 use crate::leaf::up_to;
@@ -33,6 +33,7 @@ fn built(run: &mut [u64; 256], text: &[u8], bytes: &[u8]) {
     let mut out = [0u64; 4];
     let rows = build::build(bytes, &mut goto, &mut fall, &mut held, &mut live, &mut out).value();
     both(run, &fit, &goto, &fall, &held, &live, &out, rows, text);
+    counts(run, &goto, &fall, &held, &live, &out, rows);
 }
 
 fn both(
@@ -90,7 +91,60 @@ fn sized(
         &pairs,
         report::LONG,
     );
-    tallied(run, goto, fall, held, live, out, rows, text, end);
+    let sums = [0u64; 64];
+    tallied(
+        run,
+        goto,
+        fall,
+        held,
+        live,
+        out,
+        rows,
+        text,
+        end,
+        &sums,
+        report::TALLIED,
+    );
+}
+
+// The sum of the rule is the count of the line, where that is one.
+fn counts(
+    run: &mut [u64; 256],
+    goto: &[u16],
+    fall: &[u16],
+    held: &[u8],
+    live: &[u64],
+    out: &[u64],
+    rows: usize,
+) {
+    let mut sums = [0u64; 64];
+    sums[0] = 4294967295;
+    tallied(
+        run,
+        goto,
+        fall,
+        held,
+        live,
+        out,
+        rows,
+        b"ab 4294967295",
+        13,
+        &sums,
+        report::COUNTS,
+    );
+    tallied(
+        run,
+        goto,
+        fall,
+        held,
+        live,
+        out,
+        rows,
+        b"ab 4294967296",
+        13,
+        &sums,
+        report::COUNTS,
+    );
 }
 
 fn tallied(
@@ -103,8 +157,9 @@ fn tallied(
     rows: usize,
     text: &[u8],
     end: usize,
+    sums: &[u64; 64],
+    kind: usize,
 ) {
-    let sums = [0u64; 64];
     let none = tables::refused(0, 0);
     tally_text(
         run,
@@ -117,7 +172,8 @@ fn tallied(
         text,
         end,
         none,
-        &sums,
-        report::TALLIED,
+        sums,
+        64,
+        kind,
     );
 }

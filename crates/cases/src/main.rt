@@ -57,6 +57,7 @@ fn tell(run: &[u64; 256]) {
         report::DAMAGED,
     );
     say_numbers(run, b"profiles tallied, by number", report::TALLIED);
+    say_numbers(run, b"counts at the limit, by number", report::COUNTS);
     say_numbers(
         run,
         b"profiles tallied over damaged tables, by number",

@@ -34,6 +34,9 @@ const SEED: usize = 229;
 
 const LOW: usize = 230;
 
+// Counts at the limit, by number again.
+pub const COUNTS: usize = 231;
+
 // ---- the sequence
 
 fn step(x: u64) -> u64 {

@@ -10,14 +10,14 @@ use crate::report::count;
 use crate::report::draw;
 use crate::report::expect;
 use crate::tables;
-ghost use Prim.Native.Nat.{_≤_};
 
 // The places of the greatest sums buffer, and what they hold before.
 const PLACES: usize = 70;
 
 const OLD: u64 = 9;
 
-// Tallies the first `size` of the bytes, and compares with the answer and the sums that are meant, unless the profile is refused before.
+// Tallies the first `size` of the bytes with so many places of sums, at most PLACES, and compares with the answer and the sums that are meant, unless the
+// profile is refused before.
 pub fn tally_text(
     run: &mut [u64; 256],
     goto: &[u16],
@@ -30,9 +30,10 @@ pub fn tally_text(
     size: usize,
     found: Found,
     sums: &[u64; 64],
+    lent_places: usize,
     kind: usize,
 ) {
-    let places = places_for(run);
+    let places = up_to(lent_places, PLACES);
     let lent = tables::rows_lent(goto, fall, held, live, out);
     let meant = either(profile::refusal(lent, n, bytes, size, places), found);
     let end = up_to(size, bytes.len());
@@ -58,13 +59,11 @@ pub fn tally_text(
 }
 
 // Mostly 64 or more.
-fn places_for(run: &mut [u64; 256]) -> usize
-    ensures { λ r. ⌜ r ≤ 70 ⌝ }
-{
+fn places_for(run: &mut [u64; 256]) -> usize {
     if draw(run, 8) == 0 {
-        up_to(draw(run, 64), PLACES)
+        draw(run, 64)
     } else {
-        up_to(plus(64, draw(run, 7)), PLACES)
+        plus(64, draw(run, 7))
     }
 }
 
@@ -125,6 +124,7 @@ fn over_rules(
     let number = profile::frames_of(bytes, size, &mut frames);
     let mut sums = [0u64; 64];
     profile::by_rules(fit, bytes, &frames, number, &mut sums);
+    let places = places_for(run);
     tally_text(
         run,
         goto,
@@ -137,6 +137,7 @@ fn over_rules(
         size,
         tables::refused(0, 0),
         &sums,
+        places,
         report::TALLIED,
     );
 }
@@ -170,6 +171,7 @@ fn over_tables(
     let number = profile::frames_of(bytes, size, &mut frames);
     let mut sums = [0u64; 64];
     let found = profile::by_tables(goto, fall, held, out, n, bytes, &frames, number, &mut sums);
+    let places = places_for(run);
     tally_text(
         run,
         goto,
@@ -182,6 +184,7 @@ fn over_tables(
         size,
         found,
         &sums,
+        places,
         report::SPOILED,
     );
 }

@@ -3,9 +3,8 @@ use Prim.Native.Nat.{ℕ, zero, suc, _+_, _≤_, _<_}
 use mathlib.Core.Path.{_≡_, refl, sym, ap, subst, _∙_}
 use mathlib.Core.List.{List}
 use native.Mathlib.Omega.{arith}
-use borrow.Author.Tests.{lt-ltb, le-ltb, eqb-true, eqb-false}
+use borrow.Author.Tests.{lt-ltb, le-ltb}
 use lib.ListN.{length, getD}
-use lib.Dec.{eqb}
 use Rattle.book.specs.declared.Head.{Head}
 use Rattle.book.specs.declared.Head.the-variants.{Short, Unknown, Picture, Rule}
 use Rattle.book.specs.declared.Refusal.{Refusal}
@@ -13,10 +12,32 @@ use Rattle.book.specs.declared.Answer.{Answer}
 use Rattle.book.specs.declared.Answer.the-variants.{Accepted, Refused}
 use Rattle.book.specs.Content.{Content}
 use Rattle.book.specs.Format.{sizeAt, headAt, Outcome, goes, stops, outcome, pictureField, ruleField, fieldOf, fieldAt, refused, follow, ended, fields}
-use Rattle.book.proofs.Cases.{by-test, by-lt}
+use Rattle.book.proofs.Cases.{by-lt, by-eq}
 use Rattle.book.proofs.Turns.{head-short, head-cut, head-picture, head-rule, head-unknown}
 
 -- ---- where a field ends
+
+-- a header, with what it says of the bytes
+pub data HeadIs (s : List ℕ) (at : ℕ) : Head → Type 0 where
+  short : HeadIs s at Short
+  unknown : HeadIs s at Unknown
+  picture : at + 3 + sizeAt s at ≤ length s → HeadIs s at (Picture (at + 3) (at + 3 + sizeAt s at))
+  rule : at + 3 + sizeAt s at ≤ length s → getD s at 0 ≡ 0x52 → HeadIs s at (Rule (at + 3) (at + 3 + sizeAt s at))
+
+pub head-is : (s : List ℕ) (at : ℕ) → HeadIs s at (headAt s at)
+head-is s at =
+    by-lt (length s) (at + 3)
+    (λ h. subst (HeadIs s at) (head-short s at h) short)
+    (λ h.
+    by-lt (length s) (at + 3 + sizeAt s at)
+    (λ k. subst (HeadIs s at) (head-cut s at h k) short)
+    (λ k.
+    by-eq (getD s at 0) 0x50
+    (λ x. subst (HeadIs s at) (head-picture s at h k x) (picture k))
+    (λ x.
+    by-eq (getD s at 0) 0x52
+    (λ y. subst (HeadIs s at) (head-rule s at h k x y) (rule k y))
+    (λ y. subst (HeadIs s at) (head-unknown s at h k x y) unknown))))
 
 abbrev pub Within : ℕ → ℕ → Head → Type 0
 Within n at Short = Unit
@@ -25,19 +46,13 @@ Within n at (Picture b e) = (b ≡ at + 3) × (b ≤ e) × (e ≤ n)
 Within n at (Rule b e) = (b ≡ at + 3) × (b ≤ e) × (e ≤ n)
 
 pub within : (s : List ℕ) (at : ℕ) → Within (length s) at (headAt s at)
-within s at =
-    by-lt (length s) (at + 3)
-    (λ h. subst (Within (length s) at) (head-short s at h) tt)
-    (λ h.
-    by-lt (length s) (at + 3 + sizeAt s at)
-    (λ k. subst (Within (length s) at) (head-cut s at h k) tt)
-    (λ k.
-    by-test (eqb (getD s at 0) 0x50)
-    (λ x. subst (Within (length s) at) (head-picture s at h k (eqb-true (getD s at 0) 0x50 x)) (omega arith))
-    (λ x.
-    by-test (eqb (getD s at 0) 0x52)
-    (λ y. subst (Within (length s) at) (head-rule s at h k (eqb-false (getD s at 0) 0x50 x) (eqb-true (getD s at 0) 0x52 y)) (omega arith))
-    (λ y. subst (Within (length s) at) (head-unknown s at h k (eqb-false (getD s at 0) 0x50 x) (eqb-false (getD s at 0) 0x52 y)) tt))))
+within s at = go (head-is s at)
+  where
+    go : {h : Head} → HeadIs s at h → Within (length s) at h
+    go short = tt
+    go unknown = tt
+    go (picture k) = (refl, omega arith, k)
+    go (rule k t) = (refl, omega arith, k)
 
 -- what was found to be the head of the field
 module _ (s : List ℕ) (at : ℕ) (x : Head) {h : Head} (p : h ≡ headAt s at) (q : h ≡ x) where

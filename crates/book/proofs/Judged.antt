@@ -1,30 +1,24 @@
 -- A picture and a rule, by the tests that they are judged by. Assumes nothing.
 use Prim.Native.Nat.{ℕ, _+_, _*_, _%_, _≤_, _<_}
-use mathlib.Core.Path.{_≡_, refl, sym, _∙_}
+use mathlib.Core.Path.{_≡_, sym, ap, _∙_}
 use mathlib.Core.Bool.{true, false}
 use mathlib.Core.List.{List}
 use native.Mathlib.Omega.{arith}
 use borrow.Author.Tests.{lt-ltb, le-ltb, le-leb, lt-leb, eq-eqb, ne-eqb}
 use lib.ListN.{length}
-use Rattle.book.specs.declared.Symbols.{Symbols}
-use Rattle.book.specs.declared.Symbols.the-variants.{Clean, UnknownKind, Undefined}
+use lib.Dec.{leb}
 use Rattle.book.specs.declared.Refusal.{Refusal}
 use Rattle.book.specs.declared.Refusal.the-variants.{PictureBody, PictureShared, PictureMany, RuleBody, RuleLong, RuleMany}
 use Rattle.book.specs.declared.Answer.{Answer}
 use Rattle.book.specs.declared.Answer.the-variants.{Accepted, Refused}
 use Rattle.book.specs.Limits.{mostPictures, mostRules, mostSymbols}
+use Rattle.book.specs.Answers.{number, numberOf}
 use Rattle.book.specs.Content.{Content, withPicture}
-use Rattle.book.specs.Format.{ascending, shares, judgePicture, judgeSymbols, symbolsAnswer, judgeRule, goes, stops, outcome, pictureField}
-use Rattle.book.proofs.Cases.{by-test, by-lt, by-eq}
+use Rattle.book.specs.Format.{ascending, shares, judgePicture, judgeSymbols, judgeRule, goes, stops, outcome, pictureField}
+use Rattle.book.proofs.Cases.{by-test, by-lt, by-eq, never}
 
--- a refusal is no acceptance
-never : {A : Type 0} {x : Refusal} → Refused x ≡ Accepted → A
-never e = absurd (let z : _≡_ {A = ℕ} 0 1 = cc in omega arith)
-
-clean : (at : ℕ) (y : Symbols) → symbolsAnswer at y ≡ Accepted → y ≡ Clean
-clean at Clean e = refl
-clean at (UnknownKind i) e = never e
-clean at (Undefined i) e = never e
+pub number-same : {x y : Refusal} → Refused x ≡ Refused y → number x ≡ number y
+number-same q = ap numberOf q
 
 -- ---- a picture
 
@@ -60,6 +54,20 @@ picture-sound ps at m e =
     (λ x. never (rw (lt-leb mostPictures (length ps) h, x) at e)))
     (λ h. never (rw (le-leb mostPictures (length ps) h) at e))
 
+-- a picture is refused with 5, 3 or 4
+pub picture-refused : (ps : List (List ℕ)) (at : ℕ) (m : List ℕ) {r : Refusal} → judgePicture ps at m ≡ Refused r → number r ≤ 5
+unfolding judgePicture
+picture-refused ps at m e =
+    by-test (leb mostPictures (length ps))
+    (λ x. few (PictureMany at) (rw x at e) (omega arith))
+    (λ x.
+    by-test (ascending m)
+    (λ y. by-test (shares ps m) (λ z. few (PictureShared at) (rw (x, y, z) at e) (omega arith)) (λ z. never (sym (rw (x, y, z) at e))))
+    (λ y. few (PictureBody at) (rw (x, y) at e) (omega arith)))
+  where
+    few : {r : Refusal} (x : Refusal) → Refused x ≡ Refused r → number x ≤ 5 → number r ≤ 5
+    few x q h = rw (number-same q) at h
+
 -- ---- a rule
 
 module _ (n p at : ℕ) (l : List ℕ) where
@@ -81,22 +89,27 @@ module _ (n p at : ℕ) (l : List ℕ) where
       unfolding judgeRule
       rule-odd x y = rw (lt-leb mostRules n h, le-ltb (2 * mostSymbols) (length l) k, lt-ltb 0 (length l) (omega arith), ne-eqb (length l % 2) 0 (omega arith))
 
-      pub rule-judged : (length l ≡ 0 → ⊥) → (length l % 2 ≡ 1 → ⊥) → symbolsAnswer at (judgeSymbols p (at + 3) l) ≡ judgeRule n p at l
+      pub rule-judged : (length l ≡ 0 → ⊥) → (length l % 2 ≡ 1 → ⊥) → judgeSymbols p (at + 3) l ≡ judgeRule n p at l
       unfolding judgeRule
       rule-judged x y = rw (lt-leb mostRules n h, le-ltb (2 * mostSymbols) (length l) k, lt-ltb 0 (length l) (omega arith), eq-eqb (length l % 2) 0 (omega arith))
 
-  -- an accepted rule has room, whole symbols and no fault
-  pub rule-sound : {t : Answer} → t ≡ judgeRule n p at l → t ≡ Accepted → (n < mostRules) × (length l ≤ 2 * mostSymbols) × (0 < length l) × (length l % 2 ≡ 0) × (judgeSymbols p (at + 3) l ≡ Clean)
-  rule-sound u v =
+  -- an answer that is none of 8, 7 and 6 is that of the symbols
+  pub rule-left : {t : Answer} → t ≡ judgeRule n p at l → (t ≡ Refused (RuleMany at) → ⊥) → (t ≡ Refused (RuleLong at) → ⊥) → (t ≡ Refused (RuleBody at) → ⊥)
+      → (n < mostRules) × (length l ≤ 2 * mostSymbols) × (0 < length l) × (length l % 2 ≡ 0) × (judgeSymbols p (at + 3) l ≡ t)
+  rule-left u many long body =
       by-lt n mostRules
       (λ h.
       by-lt (2 * mostSymbols) (length l)
-      (λ k. never (rule-long h k ∙ sym u ∙ v))
+      (λ k. absurd (long (u ∙ sym (rule-long h k))))
       (λ k.
       by-eq (length l) 0
-      (λ x. never (rule-empty h k x ∙ sym u ∙ v))
+      (λ x. absurd (body (u ∙ sym (rule-empty h k x))))
       (λ x.
       by-eq (length l % 2) 1
-      (λ y. never (rule-odd h k x y ∙ sym u ∙ v))
-      (λ y. (h, k, omega arith, omega arith, clean at (judgeSymbols p (at + 3) l) (rule-judged h k x y ∙ sym u ∙ v))))))
-      (λ h. never (rule-many h ∙ sym u ∙ v))
+      (λ y. absurd (body (u ∙ sym (rule-odd h k x y))))
+      (λ y. (h, k, omega arith, omega arith, rule-judged h k x y ∙ sym u)))))
+      (λ h. absurd (many (u ∙ sym (rule-many h))))
+
+  -- an accepted rule has room and whole symbols, each accepted
+  pub rule-sound : {t : Answer} → t ≡ judgeRule n p at l → t ≡ Accepted → (n < mostRules) × (length l ≤ 2 * mostSymbols) × (0 < length l) × (length l % 2 ≡ 0) × (judgeSymbols p (at + 3) l ≡ Accepted)
+  rule-sound u v = rule-left (sym v ∙ u) (λ z. never (sym z)) (λ z. never (sym z)) (λ z. never (sym z))

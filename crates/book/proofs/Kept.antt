@@ -1,6 +1,6 @@
 -- What each accepted field keeps is so at the end of an accepted book. Assumes nothing.
-use Prim.Native.Nat.{ℕ, zero, suc, _+_, _-_, _≤_, _<_}
-use mathlib.Core.Path.{_≡_, refl, sym, subst, _∙_}
+use Prim.Native.Nat.{ℕ, _+_, _-_, _≤_, _<_}
+use mathlib.Core.Path.{_≡_, refl, subst}
 use mathlib.Core.List.{List}
 use native.Mathlib.Omega.{arith}
 use borrow.Author.Tests.{eqb-false}
@@ -12,10 +12,12 @@ use Rattle.book.specs.declared.Answer.the-variants.{Accepted, Refused}
 use Rattle.book.specs.declared.Head.{Head}
 use Rattle.book.specs.declared.Head.the-variants.{Short, Unknown, Picture, Rule}
 use Rattle.book.specs.Content.{Content, nothing, withPicture, withRule}
-use Rattle.book.specs.Format.{headAt, judgePicture, symbolsOf, judgeRule, Outcome, goes, stops, outcome, pictureField, ruleField, part, fieldOf, fieldAt, means, refused, ended, fields, meaningOf}
+use Rattle.book.specs.Format.{headAt, judgePicture, symbolsOf, judgeRule, Outcome, goes, stops, outcome, pictureField, ruleField, part, fieldOf, fieldAt, Meaning, means, refused, ended, meaningOf}
 use Rattle.rows.specs.Rows.{ByteText}
+use Rattle.book.specs.Which.{Before, start, next}
 use Rattle.book.proofs.Cases.{by-test, by-lt}
-use Rattle.book.proofs.Fields.{Within, within, Ahead, ahead, fields-goes, fields-stops, fields-none, fields-ends}
+use Rattle.book.proofs.Fields.{Within, within}
+use Rattle.book.proofs.Before.{Ending, ends, halts, ending}
 
 part-bytes : (s : List ℕ) → ByteText s → (b e : ℕ) → ByteText (part s b e)
 part-bytes s small b e i =
@@ -55,32 +57,28 @@ module _ (P : ℕ → Content → Type 0)
   unfolding fieldAt
   after-field at a p = after-head at a p (headAt s at) (within s at)
 
+  before-kept : {at : ℕ} {a : Content} → P 0 nothing → Before s at a → P at a
+  before-kept p start = p
+  before-kept p (next {at} {e} {a} x h k) = subst After k (after-field at a (before-kept p x))
+
   -- what holds at the end of a book that holds b
   abbrev Kept : Content → Type 0
   Kept b = P (length s) b × (0 < length (b .rules))
 
-  at-end : (at : ℕ) (a b : Content) → at ≡ length s → P at a → ended (length s) a ≡ means b → Kept b
+  at-end : (a b : Content) → P (length s) a → ended (length s) a ≡ means b → Kept b
   unfolding ended
-  at-end at a b h p e =
+  at-end a b p e =
       by-test (eqb (length (a .rules)) 0)
       (λ t. let w : refused _ ≡ means b = rw t at e in absurd (let o : _≡_ {A = ℕ} 0 1 = cc in omega arith))
       (λ t.
       let w : means a ≡ means b = rw t at e in
       let q : a ≡ b = cc in
       let n = eqb-false (length (a .rules)) 0 t in
-      subst Kept q (subst (λ i. P i a) h p, omega arith))
-
-  along : (n at : ℕ) (a b : Content) → at ≤ length s → length s ≤ at + n → P at a → fields n s at a ≡ means b → Kept b
-  along zero at a b h k p e = at-end at a b (omega arith) p (sym (fields-none s at a) ∙ e)
-  along (suc n) at a b h k p e =
-      by-lt at (length s)
-      (λ l. turn l (λ y x. along n y x b) (fieldAt s at a) refl (after-field at a p) (ahead s at a))
-      (λ l. at-end at a b (omega arith) p (sym (fields-ends (suc n) s at a l) ∙ e))
-    where
-      turn : at < length s → ((y : ℕ) (x : Content) → y ≤ length s → length s ≤ y + n → P y x → fields n s y x ≡ means b → Kept b) → (o : Outcome) → fieldAt s at a ≡ o → After o → Ahead (length s) at o → Kept b
-      turn l f (goes y x) q t w = f y x (w .1) (omega arith) t (sym (fields-goes n s at a y x l q) ∙ e)
-      turn l f (stops r) q t w = let z = fields-stops n s at a r l q in absurd (let o : _≡_ {A = ℕ} 0 1 = cc in omega arith)
+      subst Kept q (p, omega arith))
 
   pub kept : P 0 nothing → (b : Content) → meaningOf s ≡ means b → Kept b
-  unfolding meaningOf
-  kept p b e = along (length s) 0 nothing b (omega arith) (omega arith) p e
+  kept p b e = go (ending s) e
+    where
+      go : {m : Meaning} → Ending s m → m ≡ means b → Kept b
+      go (ends {a} x) q = at-end a b (before-kept p x) q
+      go (halts x h k) q = absurd (let o : _≡_ {A = ℕ} 0 1 = cc in omega arith)

@@ -1,5 +1,6 @@
 -- The laws of the book crate. Assumes nothing.
 pub mod Cases
+pub mod Symbols
 pub mod Turns
 pub mod Tables
 pub mod Members
@@ -10,6 +11,7 @@ pub mod Held
 pub mod Judged
 pub mod Steps
 pub mod Fields
+pub mod Before
 pub mod Readings
 pub mod Kept
 pub mod Sounds
@@ -18,3 +20,4 @@ pub mod Fitting
 pub mod Meant
 pub mod Accepted
 pub mod Numbers
+pub mod Which

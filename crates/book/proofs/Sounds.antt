@@ -1,21 +1,21 @@
 -- The content of an accepted book is sound, and a rule names only pictures that stand earlier. Assumes nothing.
 use Prim.Native.Nat.{ℕ, zero, suc, _+_, _*_, _≤_, _<_}
 use mathlib.Core.Path.{_≡_, refl, sym, _∙_}
+use mathlib.Core.Logic.{inl, inr}
 use mathlib.Core.Bool.{true, false}
 use mathlib.Core.List.{List, [], _∷_, _++_}
 use native.Mathlib.Omega.{arith}
-use borrow.Author.Tests.{eq-eqb, ne-eqb, le-ltb}
 use lib.ListN.{length, getD}
-use lib.Dec.{eqb}
 use Rattle.book.specs.declared.Answer.{Answer}
 use Rattle.book.specs.declared.Answer.the-variants.{Accepted, Refused}
-use Rattle.book.specs.declared.Symbols.the-variants.{Clean, UnknownKind, Undefined}
 use Rattle.book.specs.Limits.{mostPictures, mostSymbols}
 use Rattle.book.specs.Content.{Content, nothing, withPicture, withRule, member}
-use Rattle.book.specs.Format.{ascending, shares, isSymbol, faultAt, judgeSymbols, symbolsOf, judgeRule, goes, outcome, ruleField}
+use Rattle.book.specs.Format.{ascending, shares, judgeSymbol, firstOf, judgeSymbols, symbolsOf, judgeRule, goes, outcome, ruleField}
 use Rattle.rows.specs.Rows.{ByteText}
 use Rattle.book.specs.Sound.{Sound, NamedEarlier}
-use Rattle.book.proofs.Cases.{by-test, by-lt, by-eq, clash}
+use Rattle.book.specs.Which.{IsSymbol}
+use Rattle.book.proofs.Cases.{clash, never}
+use Rattle.book.proofs.Symbols.{is-symbol}
 use Rattle.book.proofs.Tables.{length-snoc, at-snoc}
 use Rattle.book.proofs.Records.{length-symbols}
 use Rattle.book.proofs.Judged.{rule-sound}
@@ -63,36 +63,22 @@ module _ (a : Content) (S : Sound a) (m : List ℕ) (small : ByteText m)
 
 -- ---- a rule more
 
-symbol-below : (p k b : ℕ) → b < 256 → isSymbol p k b ≡ true → 256 * k + b < 256 + p
-unfolding isSymbol
-symbol-below p k b h e =
-    by-eq k 0
-    (λ x. omega arith)
-    (λ x.
-    by-eq k 1
-    (λ y.
-    by-lt b p
-    (λ z. omega arith)
-    (λ z. absurd (let w : false ≡ true = rw (ne-eqb k 0 x, eq-eqb k 1 y, le-ltb b p z) at e in let o : _≡_ {A = ℕ} 0 1 = cc in omega arith)))
-    (λ y. absurd (let w : false ≡ true = rw (ne-eqb k 0 x, ne-eqb k 1 y) at e in let o : _≡_ {A = ℕ} 0 1 = cc in omega arith)))
+symbol-below : {p k b : ℕ} → b < 256 → IsSymbol p k b → 256 * k + b < 256 + p
+symbol-below h (inl e) = omega arith
+symbol-below h (inr (e, l)) = omega arith
 
-no-fault : {A : Type 0} (i k : ℕ) → faultAt i k ≡ Clean → A
-unfolding faultAt
-no-fault i k e =
-    by-test (eqb k 1)
-    (λ t. absurd (let w : Undefined i ≡ Clean = rw t at e in let o : _≡_ {A = ℕ} 0 1 = cc in omega arith))
-    (λ t. absurd (let w : UnknownKind i ≡ Clean = rw t at e in let o : _≡_ {A = ℕ} 0 1 = cc in omega arith))
+-- of two answers of which none is a refusal
+both : (x y : Answer) → firstOf x y ≡ Accepted → (x ≡ Accepted) × (y ≡ Accepted)
+unfolding firstOf
+both Accepted y e = (refl, e)
+both (Refused r) y e = never e
 
-judge-below : (p i : ℕ) (l : List ℕ) → ByteText l → judgeSymbols p i l ≡ Clean → (j : ℕ) → getD (symbolsOf l) j 0 < 256 + p
+judge-below : (p i : ℕ) (l : List ℕ) → ByteText l → judgeSymbols p i l ≡ Accepted → (j : ℕ) → getD (symbolsOf l) j 0 < 256 + p
 unfolding judgeSymbols symbolsOf
 judge-below p i [] h e j = omega arith
 judge-below p i (k ∷ []) h e j = omega arith
-judge-below p i (k ∷ b ∷ l) h e zero =
-    by-test (isSymbol p k b) (λ t. symbol-below p k b (h 1) t) (λ t. no-fault i k (rw t at e))
-judge-below p i (k ∷ b ∷ l) h e (suc j) =
-    by-test (isSymbol p k b)
-    (λ t. judge-below p (i + 2) l (λ x. h (suc (suc x))) (rw t at e) j)
-    (λ t. no-fault i k (rw t at e))
+judge-below p i (k ∷ b ∷ l) h e zero = symbol-below (h 1) (is-symbol p i k b (both (judgeSymbol p i k b) (judgeSymbols p (i + 2) l) e .0))
+judge-below p i (k ∷ b ∷ l) h e (suc j) = judge-below p (i + 2) l (λ x. h (suc (suc x))) (both (judgeSymbol p i k b) (judgeSymbols p (i + 2) l) e .1) j
 
 pub sound-rule : (a : Content) → Sound a → (at : ℕ) (l : List ℕ) → ByteText l
     → judgeRule (length (a .rules)) (length (a .pictures)) at l ≡ Accepted → Sound (withRule a (symbolsOf l))

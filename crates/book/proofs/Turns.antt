@@ -9,12 +9,15 @@ use borrow.Author.Tests.{lt-ltb, le-ltb, eq-eqb, ne-eqb}
 use lib.ListN.{length, getD, set, drop, drop-of-length-le}
 use lib.Seq.{drop-cons, sets}
 use lib.Dec.{eqb, ltb}
-use Rattle.book.specs.Format.{sizeAt, headAt, rises, ascending, judgeSymbols, isSymbol, faultAt, symbolsOf}
+use Rattle.book.specs.Format.{sizeAt, headAt, rises, ascending, judgeSymbol, firstOf, judgeSymbols, symbolsOf}
 use Rattle.book.specs.Limits.{mostPictures}
 use Rattle.book.specs.Leaves.{taken, mark}
 use Rattle.book.specs.declared.Head.the-variants.{Short, Unknown, Picture, Rule}
-use Rattle.book.specs.declared.Symbols.the-variants.{Clean, UnknownKind, Undefined}
+use Rattle.book.specs.declared.Refusal.{Refusal}
+use Rattle.book.specs.declared.Answer.the-variants.{Accepted, Refused}
+use Rattle.book.specs.Which.{IsSymbol, Amiss}
 use Rattle.book.proofs.Cases.{by-lt}
+use Rattle.book.proofs.Symbols.{passes, fails}
 
 pub drop-one : (s : List ℕ) (i : ℕ) → i < length s → drop i s ≡ getD s i 0 ∷ drop (i + 1) s
 drop-one s i h = rw (add-one, drop-cons s i 0)
@@ -112,36 +115,23 @@ pub byte-kind : {k : ℕ} → k ≤ 1 → (k ≡ 1 → ⊥) → k ≡ 0
 byte-kind h n = omega arith
 
 module _ (p o : ℕ) (s : List ℕ) (i : ℕ) (h : i + 1 < length s) where
-  judge-turn : judgeSymbols p (o + i) (drop i s) ≡ cond (isSymbol p (getD s i 0) (getD s (i + 1) 0)) (judgeSymbols p (o + (i + 2)) (drop (i + 2) s)) (faultAt (o + i) (getD s i 0))
+  judge-turn : judgeSymbols p (o + i) (drop i s) ≡ firstOf (judgeSymbol p (o + i) (getD s i 0) (getD s (i + 1) 0)) (judgeSymbols p (o + (i + 2)) (drop (i + 2) s))
   unfolding judgeSymbols
   judge-turn =
       let e : o + (i + 2) ≡ o + i + 2 = omega arith in
       rw (e, drop-two s i h)
 
-  pub judge-kind : 1 < getD s i 0 → judgeSymbols p (o + i) (drop i s) ≡ UnknownKind (o + i)
-  unfolding isSymbol faultAt
-  judge-kind k =
-      judge-turn ∙ rw (ne-eqb (getD s i 0) 0 (omega arith), ne-eqb (getD s i 0) 1 (omega arith))
+  pub judge-stops : {r : Refusal} → Amiss p (o + i) (getD s i 0) (getD s (i + 1) 0) r → judgeSymbols p (o + i) (drop i s) ≡ Refused r
+  unfolding firstOf
+  judge-stops w = judge-turn ∙ rw (fails p (o + i) (getD s i 0) (getD s (i + 1) 0) w)
 
-  pub judge-undefined : getD s i 0 ≡ 1 → p ≤ getD s (i + 1) 0 → judgeSymbols p (o + i) (drop i s) ≡ Undefined (o + i)
-  unfolding isSymbol faultAt
-  judge-undefined e k =
-      judge-turn
-      ∙ rw (ne-eqb (getD s i 0) 0 (omega arith), eq-eqb (getD s i 0) 1 e, le-ltb (getD s (i + 1) 0) p k)
+  pub judge-goes : IsSymbol p (getD s i 0) (getD s (i + 1) 0) → judgeSymbols p (o + i) (drop i s) ≡ judgeSymbols p (o + (i + 2)) (drop (i + 2) s)
+  unfolding firstOf
+  judge-goes w = judge-turn ∙ rw (passes p (o + i) (getD s i 0) (getD s (i + 1) 0) w)
 
-  pub judge-picture : getD s i 0 ≡ 1 → getD s (i + 1) 0 < p → judgeSymbols p (o + i) (drop i s) ≡ judgeSymbols p (o + (i + 2)) (drop (i + 2) s)
-  unfolding isSymbol
-  judge-picture e k =
-      judge-turn
-      ∙ rw (ne-eqb (getD s i 0) 0 (omega arith), eq-eqb (getD s i 0) 1 e, lt-ltb (getD s (i + 1) 0) p k)
-
-  pub judge-byte : getD s i 0 ≡ 0 → judgeSymbols p (o + i) (drop i s) ≡ judgeSymbols p (o + (i + 2)) (drop (i + 2) s)
-  unfolding isSymbol
-  judge-byte e = judge-turn ∙ rw (eq-eqb (getD s i 0) 0 e)
-
-pub judge-ends : (p o : ℕ) (s : List ℕ) (i : ℕ) → length s ≤ i + 1 → judgeSymbols p (o + i) (drop i s) ≡ Clean
+pub judge-ends : (p o : ℕ) (s : List ℕ) (i : ℕ) → length s ≤ i + 1 → judgeSymbols p (o + i) (drop i s) ≡ Accepted
 unfolding judgeSymbols
-judge-ends p o s i = one-left (judgeSymbols p (o + i)) Clean refl (λ k. refl) s i
+judge-ends p o s i = one-left (judgeSymbols p (o + i)) Accepted refl (λ k. refl) s i
 
 symbolsOf-two : (k b : ℕ) (l : List ℕ) → symbolsOf (k ∷ b ∷ l) ≡ (256 * k + b) ∷ symbolsOf l
 unfolding symbolsOf

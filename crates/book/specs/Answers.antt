@@ -3,7 +3,7 @@ use Prim.Native.Nat.{ℕ}
 use Rattle.book.specs.declared.Refusal.{Refusal}
 use Rattle.book.specs.declared.Answer.{Answer}
 use Rattle.book.specs.declared.Answer.the-variants.{Accepted, Refused}
-use Rattle.book.specs.declared.Refusal.the-variants.{Cut, OtherTag, PictureBody, PictureShared, PictureMany, RuleBody, RuleLong, RuleMany, NoRule}
+use Rattle.book.specs.declared.Refusal.the-variants.{Cut, OtherTag, PictureBody, PictureShared, PictureMany, RuleBody, RuleLong, RuleMany, NoRule, UnknownKind, UndefinedPicture}
 
 -- the number of a refusal
 abbrev pub number : Refusal → ℕ
@@ -16,8 +16,10 @@ number (RuleBody at) = 6
 number (RuleLong at) = 7
 number (RuleMany at) = 8
 number (NoRule n) = 9
+number (UnknownKind at) = 17
+number (UndefinedPicture at) = 18
 
--- the value of a refusal: the field's offset, or the book's length
+-- the value of a refusal: the field's offset, the book's length, or the offset of a symbol's first byte
 abbrev pub value : Refusal → ℕ
 value (Cut at) = at
 value (OtherTag at) = at
@@ -28,6 +30,8 @@ value (RuleBody at) = at
 value (RuleLong at) = at
 value (RuleMany at) = at
 value (NoRule n) = n
+value (UnknownKind at) = at
+value (UndefinedPicture at) = at
 
 -- the number of an answer: 0 where the book is accepted
 abbrev pub numberOf : Answer → ℕ

@@ -5,14 +5,12 @@ use mathlib.Core.List.{List, [], _∷_}
 use lib.ListN.{length, getD, take, drop}
 use lib.Dec.{eqb, leb, ltb}
 use Rattle.book.specs.declared.Head.{Head}
-use Rattle.book.specs.declared.Symbols.{Symbols}
 use Rattle.book.specs.declared.Refusal.{Refusal}
 use Rattle.book.specs.declared.Answer.{Answer}
 use Rattle.book.specs.declared.ReadBook.{ReadBook}
 use Rattle.book.specs.declared.Head.the-variants.{Short, Unknown, Picture, Rule}
-use Rattle.book.specs.declared.Symbols.the-variants.{Clean, UnknownKind, Undefined}
 use Rattle.book.specs.declared.Answer.the-variants.{Accepted, Refused}
-use Rattle.book.specs.declared.Refusal.the-variants.{Cut, OtherTag, PictureBody, PictureShared, PictureMany, RuleBody, RuleLong, RuleMany, NoRule}
+use Rattle.book.specs.declared.Refusal.the-variants.{Cut, OtherTag, PictureBody, PictureShared, PictureMany, RuleBody, RuleLong, RuleMany, NoRule, UnknownKind, UndefinedPicture}
 use Rattle.book.specs.Limits.{mostPictures, mostRules, mostSymbols}
 use Rattle.book.specs.Content.{Content, nothing, withPicture, withRule, inSome, recordOf}
 
@@ -55,19 +53,22 @@ judgePicture ps at m =
 
 -- ---- a rule's body
 
--- is `k b` a symbol after p pictures: a byte, or a picture that stands earlier
-unfoldable pub isSymbol : ℕ → ℕ → ℕ → Bool
-isSymbol p k b = eqb k 0 || (eqb k 1 && ltb b p)
+-- the pair `k b` at i, after p pictures: a byte, a picture that stands earlier, or 17 or 18 with the place of its first byte
+unfoldable pub judgeSymbol : ℕ → ℕ → ℕ → ℕ → Answer
+judgeSymbol p i k b =
+    cond (eqb k 0) Accepted
+    (cond (eqb k 1) (cond (ltb b p) Accepted (Refused (UndefinedPicture i))) (Refused (UnknownKind i)))
 
--- what is wrong with `k b` at i, which is no symbol
-unfoldable pub faultAt : ℕ → ℕ → Symbols
-faultAt i k = cond (eqb k 1) (Undefined i) (UnknownKind i)
+-- the first refusal of two answers
+unfoldable pub firstOf : Answer → Answer → Answer
+firstOf Accepted y = y
+firstOf (Refused r) y = Refused r
 
--- the first pair that is no symbol, where the first stands at i
-unfoldable pub judgeSymbols : ℕ → ℕ → List ℕ → Symbols
-judgeSymbols p i [] = Clean
-judgeSymbols p i (k ∷ []) = Clean
-judgeSymbols p i (k ∷ b ∷ l) = cond (isSymbol p k b) (judgeSymbols p (i + 2) l) (faultAt i k)
+-- the pairs of a body, where the first stands at i: the first that is no symbol counts
+unfoldable pub judgeSymbols : ℕ → ℕ → List ℕ → Answer
+judgeSymbols p i [] = Accepted
+judgeSymbols p i (k ∷ []) = Accepted
+judgeSymbols p i (k ∷ b ∷ l) = firstOf (judgeSymbol p i k b) (judgeSymbols p (i + 2) l)
 
 -- the symbols of a body: 256 times the kind plus the second byte
 unfoldable pub symbolsOf : List ℕ → List ℕ
@@ -75,18 +76,12 @@ symbolsOf [] = []
 symbolsOf (k ∷ []) = []
 symbolsOf (k ∷ b ∷ l) = (256 * k + b) ∷ symbolsOf l
 
--- the answer to what a rule's symbols are
-abbrev pub symbolsAnswer : ℕ → Symbols → Answer
-symbolsAnswer at Clean = Accepted
-symbolsAnswer at (UnknownKind i) = Refused (RuleBody at)
-symbolsAnswer at (Undefined i) = Refused (RuleBody at)
-
--- the rule at a place, with the body l, after n rules and p pictures: 8, 7, 6
+-- the rule at a place, with the body l, after n rules and p pictures: 8, 7, 6, then its symbols
 unfoldable pub judgeRule : ℕ → ℕ → ℕ → List ℕ → Answer
 judgeRule n p at l =
     cond (leb mostRules n) (Refused (RuleMany at))
     (cond (ltb (2 * mostSymbols) (length l)) (Refused (RuleLong at))
-    (cond (ltb 0 (length l) && eqb (length l % 2) 0) (symbolsAnswer at (judgeSymbols p (at + 3) l)) (Refused (RuleBody at))))
+    (cond (ltb 0 (length l) && eqb (length l % 2) 0) (judgeSymbols p (at + 3) l) (Refused (RuleBody at))))
 
 -- ---- a field
 

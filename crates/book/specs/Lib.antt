@@ -6,4 +6,5 @@ pub mod Format
 pub mod Sound
 pub mod Meant
 pub mod Numbers
+pub mod Which
 pub mod Leaves

@@ -1,5 +1,5 @@
 -- What a read hands back, in the numbers of the paper; and small books with theirs. Assumes nothing.
-use Prim.Native.Nat.{ℕ, zero, suc, _≤_}
+use Prim.Native.Nat.{ℕ, zero, suc, _≤_, _<_}
 use mathlib.Core.Path.{_≡_}
 use mathlib.Core.List.{List, [], _∷_, _++_}
 use lib.ListN.{replicate}
@@ -8,16 +8,21 @@ use Rattle.book.specs.Answers.{number, value, numberOf, valueOf}
 use Rattle.book.specs.Content.{Content, nothing, recordOf}
 use Rattle.book.specs.Format.{means, refused, meaningOf, readOf}
 
+-- a read of s gives the number n and the value v
+abbrev pub Gives : List ℕ → ℕ → ℕ → Type 0
+Gives s n v = (numberOf (readOf s .answer) ≡ n) × (valueOf (readOf s .answer) ≡ v)
+
 -- number 0, value 0, and the record holds a
 pub record IsAccepted (s : List ℕ) (a : Content) : Type 0 where
   pub zero : numberOf (readOf s .answer) ≡ 0
   pub none : valueOf (readOf s .answer) ≡ 0
   pub held : readOf s .book ≡ recordOf a
 
--- the number 1 to 9 and the value of the refusal, and the record with no picture and no rule
+-- the number of the refusal, 1 to 9 or 17 or 18, and its value, and the record with no picture and no rule
 pub record IsRefused (s : List ℕ) (r : Refusal) : Type 0 where
   pub named : numberOf (readOf s .answer) ≡ number r
-  pub some : (1 ≤ number r) × (number r ≤ 9)
+  pub some : 1 ≤ number r
+  pub later : 9 < number r → (17 ≤ number r) × (number r ≤ 18)
   pub placed : valueOf (readOf s .answer) ≡ value r
   pub empty : readOf s .book ≡ recordOf nothing
 
@@ -41,7 +46,8 @@ unfoldable pub runs : ℕ → (ℕ → List ℕ) → List ℕ
 runs zero f = []
 runs (suc n) f = runs n f ++ f n
 
--- the empty book, which is case 1 of the paper; the rule `a`; and a small book for each of the other refusals
+-- the empty book, which is case 1 of the paper; the rule `a`; and a small book for each of the other refusals: of its last rule's three symbols
+-- the first is sound, and the other two are not
 abbrev pub cases : List Case
 cases =
     record { bytes = []; number = 9; value = 0 }
@@ -51,12 +57,14 @@ cases =
     ∷ record { bytes = 0x52 ∷ 0 ∷ 2 ∷ 0 ∷ 97 ∷ 0x50 ∷ 0 ∷ 0 ∷ []; number = 3; value = 5 }
     ∷ record { bytes = 0x50 ∷ 0 ∷ 1 ∷ 97 ∷ 0x50 ∷ 0 ∷ 1 ∷ 97 ∷ []; number = 4; value = 4 }
     ∷ record { bytes = runs 17 (λ k. 0x50 ∷ 0 ∷ 1 ∷ k ∷ []); number = 5; value = 64 }
-    ∷ record { bytes = 0x50 ∷ 0 ∷ 1 ∷ 97 ∷ 0x52 ∷ 0 ∷ 2 ∷ 1 ∷ 1 ∷ []; number = 6; value = 4 }
+    ∷ record { bytes = 0x50 ∷ 0 ∷ 1 ∷ 97 ∷ 0x52 ∷ 0 ∷ 1 ∷ 2 ∷ []; number = 6; value = 4 }
     ∷ record { bytes = 0x50 ∷ 0 ∷ 1 ∷ 97 ∷ 0x52 ∷ 0 ∷ 130 ∷ replicate 130 0; number = 7; value = 4 }
     ∷ record { bytes = runs 65 (λ k. 0x52 ∷ 0 ∷ 2 ∷ 0 ∷ 97 ∷ []); number = 8; value = 320 }
+    ∷ record { bytes = 0x50 ∷ 0 ∷ 1 ∷ 97 ∷ 0x52 ∷ 0 ∷ 6 ∷ 1 ∷ 0 ∷ 2 ∷ 0 ∷ 1 ∷ 1 ∷ []; number = 17; value = 9 }
+    ∷ record { bytes = 0x50 ∷ 0 ∷ 1 ∷ 97 ∷ 0x52 ∷ 0 ∷ 6 ∷ 1 ∷ 0 ∷ 1 ∷ 1 ∷ 2 ∷ 0 ∷ []; number = 18; value = 9 }
     ∷ []
 
 -- each is answered so
 abbrev pub Answered : List Case → Type 0
 Answered [] = Unit {0}
-Answered (c ∷ cs) = (numberOf (readOf (c .bytes) .answer) ≡ c .number) × (valueOf (readOf (c .bytes) .answer) ≡ c .value) × Answered cs
+Answered (c ∷ cs) = Gives (c .bytes) (c .number) (c .value) × Answered cs

@@ -6,7 +6,7 @@ ghost use lib.Seq.{sets};
 ghost use Rattle.book.specs.Limits.{mostPictures, mostRules, mostSymbols, places, mostRows, mostBytes};
 ghost use Rattle.book.specs.Answers.{numberOf, valueOf};
 ghost use Rattle.book.specs.Content.{Content, nothing, recordOf};
-ghost use Rattle.book.specs.Format.{sizeAt, headAt, ascending, judgeSymbols, symbolsOf, symbolsAnswer, judgeRule, pictureField, ruleField, fieldAt, readOf};
+ghost use Rattle.book.specs.Format.{sizeAt, headAt, ascending, judgeSymbols, symbolsOf, judgeRule, pictureField, ruleField, fieldAt, readOf};
 ghost use Rattle.book.specs.Meant.{memberIn, Fits};
 ghost use Rattle.book.specs.Leaves.{taken, mark, added, pictured, Holds, Stepped};
 
@@ -22,7 +22,7 @@ pub struct Book {
     pub rules: usize,
 }
 
-// Why a book is refused, with the field's offset, or the book's length where it has no rule.
+// Why a book is refused, with the field's offset; the book's length where it has no rule; the offset of a symbol's first byte where that is none.
 pub enum Refusal {
     Cut(usize),
     OtherTag(usize),
@@ -33,6 +33,8 @@ pub enum Refusal {
     RuleLong(usize),
     RuleMany(usize),
     NoRule(usize),
+    UnknownKind(usize),
+    UndefinedPicture(usize),
 }
 
 pub enum Answer {
@@ -52,13 +54,6 @@ enum Head {
     Unknown,
     Picture(usize, usize),
     Rule(usize, usize),
-}
-
-// What a rule's symbols are: clean, or the offset of the first that is not.
-enum Symbols {
-    Clean,
-    UnknownKind(usize),
-    Undefined(usize),
 }
 
 // A field taken: its answer, the place after it, and the book with it.
@@ -147,6 +142,8 @@ impl Answer {
                 Refusal::RuleLong(_) => 7,
                 Refusal::RuleMany(_) => 8,
                 Refusal::NoRule(_) => 9,
+                Refusal::UnknownKind(_) => 17,
+                Refusal::UndefinedPicture(_) => 18,
             },
         }
     }
@@ -167,6 +164,8 @@ impl Answer {
                 Refusal::RuleLong(at) => at,
                 Refusal::RuleMany(at) => at,
                 Refusal::NoRule(n) => n,
+                Refusal::UnknownKind(at) => at,
+                Refusal::UndefinedPicture(at) => at,
             },
         }
     }
@@ -248,25 +247,25 @@ fn store(room: &mut [u16; Book::PLACES], from: usize, body: &[u8])
     }
 }
 
-// The first symbol of a rule, whose body starts at `start`, that is none after `pictures` pictures.
-fn judge_symbols(body: &[u8], start: usize, pictures: u8) -> Symbols
-    requires { ⌜ start + length (now body) < 2 ^ 64 ⌝ }
+// What the symbols of a rule, whose body starts at `start`, are answered after `pictures` pictures: the first that is none counts.
+fn judge_symbols(body: &[u8], start: usize, pictures: u8) -> Answer
+    requires { ⌜ start + length (now body) ≤ 2 ^ 64 ⌝ }
     ensures { λ r. ⌜ r ≡ judgeSymbols pictures start (now (body .entry)) ⌝ }
 {
     let mut i: usize = 0;
     while i + 1 < body.len() {
         let kind = body[i];
         if 1 < kind {
-            return Symbols::UnknownKind(start + i);
+            return Answer::Refused(Refusal::UnknownKind(start + i));
         }
         if kind == 1 {
             if pictures <= body[i + 1] {
-                return Symbols::Undefined(start + i);
+                return Answer::Refused(Refusal::UndefinedPicture(start + i));
             }
         }
         i += 2;
     }
-    Symbols::Clean
+    Answer::Accepted
 }
 
 // ---- a picture's body
@@ -371,18 +370,7 @@ fn judge_rule(rules: usize, pictures: u8, body: &[u8], at: usize) -> Answer
     if body.len() % 2 == 1 {
         return Answer::Refused(Refusal::RuleBody(at));
     }
-    symbols_answer(judge_symbols(body, at + 3, pictures), at)
-}
-
-// The answer to what the symbols of the rule at `at` are.
-fn symbols_answer(found: Symbols, at: usize) -> Answer
-    ensures { λ r. ⌜ r ≡ symbolsAnswer at found ⌝ }
-{
-    match found {
-        Symbols::Clean => Answer::Accepted,
-        Symbols::UnknownKind(_) => Answer::Refused(Refusal::RuleBody(at)),
-        Symbols::Undefined(_) => Answer::Refused(Refusal::RuleBody(at)),
-    }
+    judge_symbols(body, at + 3, pictures)
 }
 
 // The rule at `at`, whose body ends before `end`.

@@ -11,7 +11,9 @@ fn main() {
     field_refusals();
     picture_refusals();
     rule_refusals();
+    symbol_refusals();
     two_faults();
+    several_symbols();
     rule_limits();
     rule_counts();
     picture_counts();
@@ -142,6 +144,14 @@ fn picture_refusals() {
 fn rule_refusals() {
     show(b"rule empty", b"\x52\x00\x00");
     show(b"rule odd", b"\x52\x00\x01\x00");
+    show(
+        b"rule odd after a rule",
+        b"\x52\x00\x02\x00a\x52\x00\x03\x00a\x00",
+    );
+}
+
+// 17 and 18.
+fn symbol_refusals() {
     show(b"kind 2", b"\x52\x00\x02\x02\x00");
     show(
         b"kind 255 in the second symbol",
@@ -156,6 +166,10 @@ fn rule_refusals() {
         b"picture stands later",
         b"\x52\x00\x02\x01\x00\x50\x00\x01a",
     );
+    let kind_2 = rule_ending(2);
+    show(b"kind 2 in the 64th symbol", &kind_2);
+    let early = rule_ending(1);
+    show(b"no picture yet in the 64th symbol", &early);
 }
 
 // Books with two faults at once, of which the first in the order of judging counts.
@@ -178,6 +192,31 @@ fn two_faults() {
     show(b"65th rule empty", &none[0..323]);
     let long = sixty_five(130);
     show(b"65th rule of 130 bytes", &long);
+}
+
+// Rules of which several symbols are none: the first of them counts.
+fn several_symbols() {
+    show(
+        b"kind 2, then no picture yet",
+        b"\x52\x00\x06\x00a\x02\x00\x01\x00",
+    );
+    show(
+        b"no picture yet, then kind 2",
+        b"\x52\x00\x06\x00a\x01\x00\x02\x00",
+    );
+    show(b"kinds 2 and 3", b"\x52\x00\x04\x02\x00\x03\x00");
+    show(
+        b"pictures 1 and 2, none of them yet",
+        b"\x50\x00\x01a\x52\x00\x08\x01\x00\x00b\x01\x01\x01\x02",
+    );
+    show(
+        b"two rules with kind 2",
+        b"\x52\x00\x02\x00a\x52\x00\x04\x00a\x02b\x52\x00\x02\x02a",
+    );
+    show(b"kind 2, next field cut", b"\x52\x00\x02\x02\x00\x52");
+    let mut rules = sixty_five(130);
+    rules[323] = 2;
+    show(b"65th rule of 130 bytes, of kind 2", &rules);
 }
 
 fn rule_limits() {
@@ -243,6 +282,16 @@ fn rule_of(size: u8) -> [u8; 133] {
     a[0] = 0x52;
     a[2] = size;
     put(&mut a, 4, 133, 2, 0x61, 0);
+    a
+}
+
+// A rule of 64 symbols, the byte a but for the last, which is of the kind.
+fn rule_ending(kind: u8) -> [u8; 131] {
+    let mut a = [0u8; 131];
+    a[0] = 0x52;
+    a[2] = 128;
+    put(&mut a, 4, 131, 2, 0x61, 0);
+    a[129] = kind;
     a
 }
 

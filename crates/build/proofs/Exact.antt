@@ -4,6 +4,7 @@ use mathlib.Core.Logic.{inl, inr}
 use mathlib.Core.Bool.{cond}
 use Prim.Native.Nat.{ℕ, _≤_}
 use native.Mathlib.Omega.{arith}
+use borrow.Author.Tests.{ne-eqb}
 use lib.Dec.{eqb}
 use Rattle.rows.specs.Rows.{MoreThan, AtMost}
 use Rattle.rows.proofs.Rows.{not-both}
@@ -13,12 +14,11 @@ use Rattle.meaning.specs.Tables.{Five, Tables}
 use Rattle.meaning.proofs.Congruent.{congruence}
 use Rattle.meaning.proofs.Unique.{rows-or-more, Alike, one-five, one-count}
 use Rattle.book.specs.declared.Refusal.{Refusal}
-use Rattle.book.specs.declared.Refusal.the-variants.{Cut, OtherTag, PictureBody, PictureShared, PictureMany, RuleBody, RuleLong, RuleMany, NoRule}
 use Rattle.book.specs.Content.{Content}
 use Rattle.book.specs.Answers.{number}
 use Rattle.book.specs.Format.{Meaning, means, refused, meaningOf}
 use Rattle.book.specs.Meant.{rulesOf}
-use Rattle.book.proofs.Numbers.{numbered}
+use Rattle.book.proofs.Numbers.{number-some, refusal-of, is-refusal}
 use Rattle.build.specs.Promise.{numberOf, valueOf, lent, AsLong, Builds, accepted, no-room, Answers, builds, refuses}
 use Rattle.build.specs.Exact.{Crowded, Fitting, Exactly, RoomExactly, RowsOrMore, OfWords, OneOutcome}
 use Rattle.build.specs.declared.Built.{Built}
@@ -50,6 +50,10 @@ same-content p q = cc
 not-refused : {A : Type 0} {a : Content} {why : Refusal} {m : Meaning} → m ≡ means a → m ≡ refused why → A
 not-refused p q = absurd (let z : _≡_ {A = ℕ} 0 1 = cc in omega arith)
 
+-- the reader gives no 10
+not-ten : (why : Refusal) → number why ≡ 10 → ⊥
+not-ten why e = let x = number-some why .1 (omega arith) in omega arith
+
 -- what they say of what the bytes mean
 data Verdict (m : Meaning) (n i v : ℕ) : Type 0 where
   sound : {a : Content} → m ≡ means a → Says (rulesOf a) n i v → Verdict m n i v
@@ -78,10 +82,10 @@ room-exactly c = go (verdict (c .promise))
     }
 
     by-why : (why : Refusal) → meaningOf (c .bytes) ≡ refused why → numberOf (c .answer) ≡ number why → Exactly c
-    by-why why e q = let (low, high) = numbered (c .bytes) .refusal why e .some in record {
-      no-room = ((λ z. absurd (omega arith)), λ (y : Crowded (c .bytes) n). not-refused (y .sound) e);
-      room-value = λ z. absurd (omega arith);
-      accepted = ((λ z. absurd (omega arith)), λ (y : Fitting (c .bytes) n). not-refused (y .sound) e);
+    by-why why e q = record {
+      no-room = ((λ z. absurd (not-ten why (sym q ∙ z))), λ (y : Crowded (c .bytes) n). not-refused (y .sound) e);
+      room-value = λ z. absurd (not-ten why (sym q ∙ z));
+      accepted = ((λ z. absurd (omega (arith, number-some why .0))), λ (y : Fitting (c .bytes) n). not-refused (y .sound) e);
     }
 
     go : Verdict (meaningOf (c .bytes)) n (numberOf (c .answer)) (valueOf (c .answer)) → Exactly c
@@ -119,27 +123,14 @@ answers-same w w′ (builds p) (builds q) = builds-same w w′ p q
 answers-same w w′ refuses refuses = record { number-same = refl; value-same = refl; buffers-same = refl }
 
 -- an answer is known by its number and its value
-refusal-of : ℕ → ℕ → Refusal
-refusal-of i v =
-    cond (eqb i 1) (Cut v) (cond (eqb i 2) (OtherTag v) (cond (eqb i 3) (PictureBody v) (cond (eqb i 4) (PictureShared v) (cond (eqb i 5) (PictureMany v)
-    (cond (eqb i 6) (RuleBody v) (cond (eqb i 7) (RuleLong v) (cond (eqb i 8) (RuleMany v) (NoRule v))))))))
-
 answer-of : ℕ → ℕ → Built
 answer-of i v = cond (eqb i 0) (Rows v) (cond (eqb i 10) (NoRoom v) (Refused (refusal-of i v)))
 
 is-answer : (x : Built) → answer-of (numberOf x) (valueOf x) ≡ x
-unfolding answer-of refusal-of
+unfolding answer-of
 is-answer (Rows n) = refl
 is-answer (NoRoom n) = refl
-is-answer (Refused (Cut at)) = refl
-is-answer (Refused (OtherTag at)) = refl
-is-answer (Refused (PictureBody at)) = refl
-is-answer (Refused (PictureShared at)) = refl
-is-answer (Refused (PictureMany at)) = refl
-is-answer (Refused (RuleBody at)) = refl
-is-answer (Refused (RuleLong at)) = refl
-is-answer (Refused (RuleMany at)) = refl
-is-answer (Refused (NoRule n)) = refl
+is-answer (Refused why) = rw (ne-eqb (number why) 0 (omega (arith, number-some why .0)), ne-eqb (number why) 10 (not-ten why), is-refusal why)
 
 pub one-outcome : OneOutcome
 one-outcome c d e q w w′ =

@@ -39,7 +39,15 @@ fn refused() {
     lend(b"other tag", b"\x52\x00\x02\x00a\x51\x00\x00", 256, 1, 1);
     lend(b"empty picture", b"\x50\x00\x00", 256, 1, 1);
     lend(b"shared byte", b"\x50\x00\x01a\x50\x00\x01a", 256, 1, 1);
+    lend(b"odd rule", b"\x52\x00\x03\x02a\x00", 256, 1, 1);
     lend(b"kind 2", b"\x52\x00\x02\x02a", 256, 1, 1);
+    lend(
+        b"no picture yet, then kind 2",
+        b"\x52\x00\x06\x00a\x01\x00\x02a",
+        256,
+        1,
+        1,
+    );
 }
 
 // Builds with so many entries of goto, `outs` places of out, and `rows` of the other tables.

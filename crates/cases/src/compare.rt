@@ -57,6 +57,9 @@ fn read(
     let got = book::read(bytes);
     let answer = got.answer;
     count(run, plus(report::READ, judged.number), 1);
+    if 1 < judged.amiss {
+        count(run, report::SEVERAL, 1);
+    }
     expect(run, answer.number() == judged.number, b"number of a read");
     expect(run, answer.value() == judged.value, b"value of a read");
     let is_same = record::is_record(bytes, pictures, rules, judged, got.book);

@@ -189,10 +189,26 @@ fn odd_field(bytes: &mut [u8; 512], size: usize, run: &mut [u64; 256]) -> usize 
     plus(plus(size, 3), body)
 }
 
-// A book with a byte changed, cut short, with a byte or a field more; and its length.
+// A rule more, in which some pairs are bytes and pictures and some are neither.
+fn odd_rule(bytes: &mut [u8; 512], size: usize, run: &mut [u64; 256]) -> usize {
+    let pairs = draw(run, 7);
+    header(bytes, size, 0x52, plus(pairs, pairs));
+    for j in 0..pairs {
+        let place = plus(plus(size, 3), plus(j, j));
+        put8(
+            bytes,
+            place,
+            at8(b"\x00\x00\x00\x01\x01\x02\xff", draw(run, 7)),
+        );
+        put8(bytes, plus(place, 1), draw(run, 4));
+    }
+    plus(plus(size, 3), plus(pairs, pairs))
+}
+
+// A book with a byte changed, cut short, with a byte, a field or a rule more; and its length.
 pub fn spoil(bytes: &mut [u8; 512], size: usize, run: &mut [u64; 256]) -> usize {
     let place = draw(run, size);
-    match draw(run, 4) {
+    match draw(run, 5) {
         0 => {
             put8(bytes, place, odd_byte(run));
             size
@@ -203,6 +219,7 @@ pub fn spoil(bytes: &mut [u8; 512], size: usize, run: &mut [u64; 256]) -> usize 
             insert(bytes, size, place, byte);
             plus(size, 1)
         }
+        3 => odd_rule(bytes, size, run),
         _ => odd_field(bytes, size, run),
     }
 }

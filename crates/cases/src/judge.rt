@@ -5,11 +5,13 @@ use crate::leaf::at8;
 use crate::leaf::plus;
 use crate::leaf::put;
 
+// The answer, what a sound book holds, and how many symbols of a refused rule are none.
 pub struct Judged {
     pub number: usize,
     pub value: usize,
     pub pictures: usize,
     pub rules: usize,
+    pub amiss: usize,
 }
 
 // Place 2p of `pictures` is where picture p's body begins, the next one its size; so for the rules.
@@ -21,9 +23,9 @@ pub fn judge(bytes: &[u8], pictures: &mut [usize; 64], rules: &mut [usize; 256])
         if bytes.len() <= from {
             break;
         }
-        let number = fault(bytes, from, pictures, p, k);
-        if number != 0 {
-            return refused(number, from);
+        let found = fault(bytes, from, pictures, p, k);
+        if found.number != 0 {
+            return found;
         }
         let body = plus(from, 3);
         let size = size_at(bytes, from);
@@ -44,6 +46,7 @@ pub fn judge(bytes: &[u8], pictures: &mut [usize; 64], rules: &mut [usize; 256])
         value: 0,
         pictures: p,
         rules: k,
+        amiss: 0,
     }
 }
 
@@ -53,6 +56,7 @@ fn refused(number: usize, value: usize) -> Judged {
         value,
         pictures: 0,
         rules: 0,
+        amiss: 0,
     }
 }
 
@@ -74,20 +78,20 @@ fn size_at(bytes: &[u8], from: usize) -> usize {
     256 * at8(bytes, plus(from, 1)) + at8(bytes, plus(from, 2))
 }
 
-// The number with which the field at `from` is refused, or 0.
-fn fault(bytes: &[u8], from: usize, pictures: &[usize], p: usize, k: usize) -> usize {
+// What the field at `from` is refused with, or the number 0.
+fn fault(bytes: &[u8], from: usize, pictures: &[usize], p: usize, k: usize) -> Judged {
     let left = above(bytes.len(), from);
     let size = size_at(bytes, from);
     if left < 3 || left < plus(3, size) {
-        return 1;
+        return refused(1, from);
     }
     let tag = at8(bytes, from);
     if tag == 0x50 {
-        picture_fault(bytes, plus(from, 3), size, pictures, p)
+        refused(picture_fault(bytes, plus(from, 3), size, pictures, p), from)
     } else if tag == 0x52 {
-        rule_fault(bytes, plus(from, 3), size, p, k)
+        rule_fault(bytes, from, size, p, k)
     } else {
-        2
+        refused(2, from)
     }
 }
 
@@ -142,27 +146,42 @@ pub fn is_member(bytes: &[u8], byte: usize, pictures: &[usize], q: usize) -> boo
     false
 }
 
-fn rule_fault(bytes: &[u8], body: usize, size: usize, p: usize, k: usize) -> usize {
+fn rule_fault(bytes: &[u8], from: usize, size: usize, p: usize, k: usize) -> Judged {
     if k == 64 {
-        return 8;
+        return refused(8, from);
     }
     if 128 < size {
-        return 7;
+        return refused(7, from);
     }
-    if size == 0 || size % 2 == 1 || !is_known(bytes, body, size, p) {
-        return 6;
+    if size == 0 || size % 2 == 1 {
+        return refused(6, from);
     }
-    0
+    symbols_fault(bytes, plus(from, 3), size, p)
 }
 
-// Whether each symbol is a byte or one of the first p pictures.
-fn is_known(bytes: &[u8], body: usize, size: usize, p: usize) -> bool {
+// All symbols from the last to the first, so that the first which is none is found last.
+fn symbols_fault(bytes: &[u8], body: usize, size: usize, p: usize) -> Judged {
+    let mut found = refused(0, 0);
+    let mut amiss = 0;
     for i in 0..size / 2 {
-        let kind = at8(bytes, plus(body, plus(i, i)));
-        let second = at8(bytes, plus(plus(body, 1), plus(i, i)));
-        if 1 < kind || (kind == 1 && p <= second) {
-            return false;
+        let place = plus(body, above(size, plus(2, plus(i, i))));
+        let number = symbol_fault(at8(bytes, place), at8(bytes, plus(place, 1)), p);
+        if number != 0 {
+            amiss = plus(amiss, 1);
+            found = refused(number, place);
         }
     }
-    true
+    found.amiss = amiss;
+    found
+}
+
+// A byte, one of the first p pictures, or neither.
+fn symbol_fault(kind: usize, second: usize, p: usize) -> usize {
+    if kind == 0 || kind == 1 && second < p {
+        0
+    } else if kind == 1 {
+        18
+    } else {
+        17
+    }
 }

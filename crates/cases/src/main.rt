@@ -47,6 +47,11 @@ fn one(run: &mut [u64; 256], number: u64) {
 
 fn tell(run: &[u64; 256]) {
     say_numbers(run, b"books read, by number", report::READ);
+    say(
+        run,
+        b"of these for the first of several symbols",
+        report::SEVERAL,
+    );
     say_numbers(run, b"books built, by number", report::BUILT);
     say(run, b"rows compared", report::ROWS);
     say_numbers(run, b"texts walked, by number", report::WALKED);

@@ -37,6 +37,9 @@ const LOW: usize = 230;
 // Counts at the limit, by number again.
 pub const COUNTS: usize = 231;
 
+// Rules refused of which several symbols are none.
+pub const SEVERAL: usize = 255;
+
 // ---- the sequence
 
 fn step(x: u64) -> u64 {
@@ -112,7 +115,7 @@ pub fn say(run: &[u64; 256], what: &[u8], which: usize) {
 // The numbers that occurred, with how often: number 0 stands at `from`.
 pub fn say_numbers(run: &[u64; 256], what: &[u8], from: usize) {
     io::write_all(1, what);
-    for number in 0..17usize {
+    for number in 0..19usize {
         let times = at64(run, plus(from, number));
         if times != 0 {
             io::write_all(1, b", ");

@@ -10,7 +10,7 @@ use Rattle.meaning.proofs.Tested.{below}
 use Rattle.meaning.proofs.Checked.{sameText, isBefore, anyOf, bound, right}
 use Rattle.book.specs.Content.{Content, member, inSome}
 use Rattle.book.specs.declared.Refusal.the-variants.{NoRule}
-use Rattle.book.specs.Format.{means, refused, meaningOf, fields, follow, ended, fieldAt, fieldOf, headAt, pictureField, judgePicture, ascending, rises, shares, ruleField, outcome, judgeRule, judgeSymbols, isSymbol, symbolsOf}
+use Rattle.book.specs.Format.{means, refused, meaningOf, fields, follow, ended, fieldAt, fieldOf, headAt, pictureField, judgePicture, ascending, rises, shares, ruleField, outcome, judgeRule, judgeSymbol, firstOf, judgeSymbols, symbolsOf}
 use Rattle.book.specs.Meant.{rulesOf}
 use Rattle.numbers.specs.Inputs.{bytesA, bytesAA, letters, bytesX, bytesY}
 
@@ -36,19 +36,19 @@ unfolding meaningOf fields ended
 empty-refused = refl
 
 pub means-A : Means bytesA contentA
-unfolding meaningOf fields follow ended fieldAt fieldOf headAt ruleField outcome judgeRule judgeSymbols isSymbol symbolsOf
+unfolding meaningOf fields follow ended fieldAt fieldOf headAt ruleField outcome judgeRule judgeSymbols judgeSymbol firstOf symbolsOf
 means-A = record { meant = refl }
 
 pub means-AA : Means bytesAA contentAA
-unfolding meaningOf fields follow ended fieldAt fieldOf headAt ruleField outcome judgeRule judgeSymbols isSymbol symbolsOf
+unfolding meaningOf fields follow ended fieldAt fieldOf headAt ruleField outcome judgeRule judgeSymbols judgeSymbol firstOf symbolsOf
 means-AA = record { meant = refl }
 
 pub means-X : Means bytesX contentX
-unfolding meaningOf fields follow ended fieldAt fieldOf headAt pictureField judgePicture ascending rises shares inSome member ruleField outcome judgeRule judgeSymbols isSymbol symbolsOf
+unfolding meaningOf fields follow ended fieldAt fieldOf headAt pictureField judgePicture ascending rises shares inSome member ruleField outcome judgeRule judgeSymbols judgeSymbol firstOf symbolsOf
 means-X = record { meant = refl }
 
 pub means-Y : Means bytesY contentY
-unfolding meaningOf fields follow ended fieldAt fieldOf headAt pictureField judgePicture ascending rises shares inSome member ruleField outcome judgeRule judgeSymbols isSymbol symbolsOf
+unfolding meaningOf fields follow ended fieldAt fieldOf headAt pictureField judgePicture ascending rises shares inSome member ruleField outcome judgeRule judgeSymbols judgeSymbol firstOf symbolsOf
 means-Y = record { meant = refl }
 
 -- ---- their rows

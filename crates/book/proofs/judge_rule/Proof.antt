@@ -1,7 +1,6 @@
 -- `book::judge_rule` meets its contract: each return by the tests that led there. Assumes nothing.
-use mathlib.Core.Path.{ap, _∙_}
+use mathlib.Core.Path.{_∙_}
 use borrow.Author.Needs.{needs}
-use Rattle.book.specs.Format.{symbolsAnswer}
 use Rattle.book.proofs.Judged.{rule-many, rule-long, rule-empty, rule-odd, rule-judged}
 use Rattle.book.proofs.judge_rule.Statement.{statement}
 use Rattle.book.proofs.judge_rule.Tie as tie
@@ -27,15 +26,10 @@ add-judge-symbols c = search needs
 judge-symbols-requires : tie.Need-judge-symbols-requires
 judge-symbols-requires c κs = search needs
 
-symbols-answer-requires : tie.Need-symbols-answer-requires
-symbols-answer-requires c κs = search needs
-
 returns-5 : tie.Need-returns-5
 returns-5 c =
-    let k = c .before .before in
-    let g = k .before .before .before .before .before .args in
-    c .symbols-answer .ensures
-    ∙ ap (symbolsAnswer (g .at)) (c .before .judge-symbols .ensures)
+    let g = c .before .before .before .before .before .before .args in
+    c .judge-symbols .ensures
     ∙ rule-judged (g .rules) (g .pictures) (g .at) (g .body .now) (search needs) (search needs) (search needs) (search needs)
 
 pub judge-rule-spec : {M : Type 1} → statement M
@@ -49,5 +43,4 @@ judge-rule-spec =
     returns-4
     add-judge-symbols
     judge-symbols-requires
-    symbols-answer-requires
     returns-5)

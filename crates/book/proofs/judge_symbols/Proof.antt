@@ -1,12 +1,13 @@
 -- `book::judge_symbols` meets its contract: the first fault of what is left is that of the body. Assumes nothing.
 use Prim.Native.Nat.{ℕ, _+_, _≤_, _-_}
 use mathlib.Core.Path.{ap, _≡_, sym, _∙_}
-use mathlib.Core.Logic.{⊎-elim}
+use mathlib.Core.Logic.{⊎-elim, inl, inr}
 use native.Mathlib.Nat.{add-zero}
 use borrow.Author.Needs.{needs}
 use lib.ListN.{length, drop}
 use Rattle.book.specs.Format.{judgeSymbols}
-use Rattle.book.proofs.Turns.{judge-kind, judge-undefined, judge-picture, judge-byte, judge-ends, byte-kind}
+use Rattle.book.specs.Which.{unknown, undefined}
+use Rattle.book.proofs.Turns.{judge-stops, judge-goes, judge-ends, byte-kind}
 use Rattle.book.proofs.judge_symbols.Statement.{statement}
 use Rattle.book.proofs.judge_symbols.Tie as tie
 
@@ -32,7 +33,7 @@ returns : tie.Need-returns Inv-loop μ-loop
 returns c =
     let l = c .before .before .before in
     let a = l .before .args in
-    sym (l .loop .inv .1 ∙ judge-kind (a .pictures) (a .start) (a .body .now) (l .loop .i) (search needs) (search needs))
+    sym (l .loop .inv .1 ∙ judge-stops (a .pictures) (a .start) (a .body .now) (l .loop .i) (search needs) (unknown (search needs)))
 
 add-if3 : tie.Need-add-if3 Inv-loop μ-loop
 add-if3 c = search needs
@@ -40,14 +41,14 @@ add-if3 c = search needs
 shared-slice-read-if3 : tie.Need-shared-slice-read-if3 Inv-loop μ-loop
 shared-slice-read-if3 c = search needs
 
-add-t16 : tie.Need-add-t16 Inv-loop μ-loop
-add-t16 c = search needs
+add-t17 : tie.Need-add-t17 Inv-loop μ-loop
+add-t17 c = search needs
 
 returns-2 : tie.Need-returns-2 Inv-loop μ-loop
 returns-2 c =
     let l = c .before .before .before .before .before .before in
     let a = l .before .args in
-    sym (l .loop .inv .1 ∙ judge-undefined (a .pictures) (a .start) (a .body .now) (l .loop .i) (search needs) (search needs) (search needs))
+    sym (l .loop .inv .1 ∙ judge-stops (a .pictures) (a .start) (a .body .now) (l .loop .i) (search needs) (undefined (search needs) (search needs)))
 
 add-i : tie.Need-add-i Inv-loop μ-loop
 add-i c = search needs
@@ -62,8 +63,8 @@ loop-again c =
       search needs,
       l .loop .inv .1
           ∙ ⊎-elim
-          (λ w. judge-picture (a .pictures) (a .start) (a .body .now) (l .loop .i) (search needs) (w .0 .taken) (search needs))
-          (λ w. judge-byte (a .pictures) (a .start) (a .body .now) (l .loop .i) (search needs) (byte-kind (c .before .if1 .left) (w .left)))
+          (λ w. judge-goes (a .pictures) (a .start) (a .body .now) (l .loop .i) (search needs) (inr (w .0 .taken, search needs)))
+          (λ w. judge-goes (a .pictures) (a .start) (a .body .now) (l .loop .i) (search needs) (inl (byte-kind (c .before .if1 .left) (w .left))))
           (c .if2 .came),
     )
 
@@ -86,7 +87,7 @@ judge-symbols-spec =
     returns
     add-if3
     shared-slice-read-if3
-    add-t16
+    add-t17
     returns-2
     add-i
     loop-less

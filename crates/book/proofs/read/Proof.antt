@@ -21,7 +21,7 @@ loop-holds : tie.Need-loop-holds Inv-loop μ-loop
 loop-holds c = starts (c .before .before .args .bytes .now) (c .empty .ensures .0)
 
 field-requires : tie.Need-field-requires Inv-loop μ-loop
-field-requires c κs = c .before .loop .inv .inside
+field-requires c κs = search needs
 
 enum-told : tie.Need-enum-told Inv-loop μ-loop
 enum-told c = search needs

@@ -16,9 +16,6 @@ loop-holds c = search needs
 fault-requires : tie.Need-fault-requires Inv-loop μ-loop
 fault-requires c κs = search needs
 
-refused-requires : tie.Need-refused-requires Inv-loop μ-loop
-refused-requires c κs = search needs
-
 returns : tie.Need-returns Inv-loop μ-loop
 returns c = search needs
 
@@ -55,8 +52,8 @@ loop-less c = search needs
 loop-again : tie.Need-loop-again Inv-loop μ-loop
 loop-again c = search needs
 
-refused-requires-2 : tie.Need-refused-requires-2 Inv-loop μ-loop
-refused-requires-2 c κs = search needs
+refused-requires : tie.Need-refused-requires Inv-loop μ-loop
+refused-requires c κs = search needs
 
 returns-2 : tie.Need-returns-2 Inv-loop μ-loop
 returns-2 c = search needs
@@ -72,7 +69,6 @@ judge-spec =
     μ-loop
     loop-holds
     fault-requires
-    refused-requires
     returns
     plus-requires
     size-at-requires
@@ -85,6 +81,6 @@ judge-spec =
     add-counter
     loop-less
     loop-again
-    refused-requires-2
+    refused-requires
     returns-2
     returns-3)

@@ -1,21 +1,30 @@
 -- Where a field ends, and a turn of the loop over the fields. Assumes nothing.
-use Prim.Native.Nat.{ℕ, zero, suc, _+_, _≤_, _<_}
+use Prim.Native.Nat.{ℕ, zero, suc, _+_, _-_, _≤_, _<_}
 use mathlib.Core.Path.{_≡_, refl, sym, ap, subst, _∙_}
 use mathlib.Core.List.{List}
 use native.Mathlib.Omega.{arith}
 use borrow.Author.Tests.{lt-ltb, le-ltb}
-use lib.ListN.{length, getD}
+use lib.ListN.{length, getD, drop, length-take, length-drop}
+use lib.Seq.{getD-take, getD-drop}
 use Rattle.book.specs.declared.Head.{Head}
 use Rattle.book.specs.declared.Head.the-variants.{Short, Unknown, Picture, Rule}
 use Rattle.book.specs.declared.Refusal.{Refusal}
 use Rattle.book.specs.declared.Answer.{Answer}
 use Rattle.book.specs.declared.Answer.the-variants.{Accepted, Refused}
 use Rattle.book.specs.Content.{Content}
-use Rattle.book.specs.Format.{sizeAt, headAt, Outcome, goes, stops, outcome, pictureField, ruleField, fieldOf, fieldAt, refused, follow, ended, fields}
+use Rattle.book.specs.Format.{sizeAt, headAt, Outcome, goes, stops, outcome, pictureField, ruleField, part, fieldOf, fieldAt, refused, follow, ended, fields}
 use Rattle.book.proofs.Cases.{by-lt, by-eq}
 use Rattle.book.proofs.Turns.{head-short, head-cut, head-picture, head-rule, head-unknown}
 
 -- ---- where a field ends
+
+-- a part of the bytes
+module _ (s : List ℕ) (b e : ℕ) where
+  pub part-long : b ≤ e → e ≤ length s → b + length (part s b e) ≡ e
+  part-long k l = simp (length-take, length-drop) (omega arith)
+
+  pub part-at : (i : ℕ) → i < e - b → getD (part s b e) i 0 ≡ getD s (b + i) 0
+  part-at i h = getD-take (e - b) (drop b s) i 0 h ∙ getD-drop b s i 0
 
 -- a header, with what it says of the bytes
 pub data HeadIs (s : List ℕ) (at : ℕ) : Head → Type 0 where

@@ -1,37 +1,32 @@
 -- What each accepted field keeps is so at the end of an accepted book. Assumes nothing.
-use Prim.Native.Nat.{ℕ, _+_, _-_, _≤_, _<_}
+use Prim.Native.Nat.{ℕ, _+_, _-_, _<_}
 use mathlib.Core.Path.{_≡_, refl, subst}
 use mathlib.Core.List.{List}
 use native.Mathlib.Omega.{arith}
 use borrow.Author.Tests.{eqb-false}
-use lib.ListN.{length, drop, length-take, length-drop, List·getD-eq-default}
-use lib.Seq.{getD-take, getD-drop}
+use lib.ListN.{length, length-take, List·getD-eq-default}
 use lib.Dec.{eqb}
 use Rattle.book.specs.declared.Answer.{Answer}
 use Rattle.book.specs.declared.Answer.the-variants.{Accepted, Refused}
 use Rattle.book.specs.declared.Head.{Head}
-use Rattle.book.specs.declared.Head.the-variants.{Short, Unknown, Picture, Rule}
 use Rattle.book.specs.Content.{Content, nothing, withPicture, withRule}
-use Rattle.book.specs.Format.{headAt, judgePicture, symbolsOf, judgeRule, Outcome, goes, stops, outcome, pictureField, ruleField, part, fieldOf, fieldAt, Meaning, means, refused, ended, meaningOf}
+use Rattle.book.specs.Format.{sizeAt, judgePicture, symbolsOf, judgeRule, Outcome, goes, stops, outcome, pictureField, ruleField, part, fieldOf, fieldAt, Meaning, means, refused, ended, meaningOf}
 use Rattle.rows.specs.Rows.{ByteText}
 use Rattle.book.specs.Which.{Before, start, next}
 use Rattle.book.proofs.Cases.{by-test, by-lt}
-use Rattle.book.proofs.Fields.{Within, within}
+use Rattle.book.proofs.Fields.{part-at, part-long, HeadIs, short, unknown, picture, rule, head-is}
 use Rattle.book.proofs.Before.{Ending, ends, halts, ending}
 
 part-bytes : (s : List ℕ) → ByteText s → (b e : ℕ) → ByteText (part s b e)
 part-bytes s small b e i =
     by-lt i (e - b)
-    (λ h. rw (getD-take (e - b) (drop b s) i 0 h, getD-drop b s i 0) (small (b + i)))
+    (λ h. rw (part-at s b e i h) (small (b + i)))
     (λ h. rw (List·getD-eq-default (part s b e) 0 {n = i} (rw length-take (omega arith))) (omega arith))
-
-part-ends : (s : List ℕ) (at b e : ℕ) → b ≡ at + 3 → b ≤ e → e ≤ length s → at + 3 + length (part s b e) ≡ e
-part-ends s at b e h k l = simp (length-take, length-drop) (omega arith)
 
 -- P holds of a place and of what stands before it
 module _ (P : ℕ → Content → Type 0)
-    (picture : (at : ℕ) (a : Content) (m : List ℕ) → ByteText m → P at a → judgePicture (a .pictures) at m ≡ Accepted → P (at + 3 + length m) (withPicture a m))
-    (rule : (at : ℕ) (a : Content) (l : List ℕ) → ByteText l → P at a → judgeRule (length (a .rules)) (length (a .pictures)) at l ≡ Accepted → P (at + 3 + length l) (withRule a (symbolsOf l)))
+    (by-picture : (at : ℕ) (a : Content) (m : List ℕ) → ByteText m → P at a → judgePicture (a .pictures) at m ≡ Accepted → P (at + 3 + length m) (withPicture a m))
+    (by-rule : (at : ℕ) (a : Content) (l : List ℕ) → ByteText l → P at a → judgeRule (length (a .rules)) (length (a .pictures)) at l ≡ Accepted → P (at + 3 + length l) (withRule a (symbolsOf l)))
     (s : List ℕ) (small : ByteText s) where
   abbrev After : Outcome → Type 0
   After (goes e a) = P e a
@@ -42,20 +37,22 @@ module _ (P : ℕ → Content → Type 0)
   after-judged Accepted e a h = h refl
   after-judged (Refused r) e a h = tt
 
-  after-head : (at : ℕ) (a : Content) → P at a → (h : Head) → Within (length s) at h → After (fieldOf s at a h)
+  after-head : (at : ℕ) (a : Content) → P at a → {h : Head} → HeadIs s at h → After (fieldOf s at a h)
   unfolding fieldOf pictureField ruleField
-  after-head at a p Short w = tt
-  after-head at a p Unknown w = tt
-  after-head at a p (Picture b e) w =
-      after-judged (judgePicture (a .pictures) at (part s b e)) e (withPicture a (part s b e))
-      (λ x. subst (λ n. P n (withPicture a (part s b e))) (part-ends s at b e (w .0) (w .1) (w .2)) (picture at a (part s b e) (part-bytes s small b e) p x))
-  after-head at a p (Rule b e) w =
-      after-judged (judgeRule (length (a .rules)) (length (a .pictures)) at (part s b e)) e (withRule a (symbolsOf (part s b e)))
-      (λ x. subst (λ n. P n (withRule a (symbolsOf (part s b e)))) (part-ends s at b e (w .0) (w .1) (w .2)) (rule at a (part s b e) (part-bytes s small b e) p x))
+  after-head at a p short = tt
+  after-head at a p unknown = tt
+  after-head at a p (picture k) =
+      let m = part s (at + 3) (at + 3 + sizeAt s at) in
+      after-judged (judgePicture (a .pictures) at m) (at + 3 + sizeAt s at) (withPicture a m)
+      (λ x. subst (λ n. P n (withPicture a m)) (part-long s (at + 3) (at + 3 + sizeAt s at) (omega arith) k) (by-picture at a m (part-bytes s small (at + 3) (at + 3 + sizeAt s at)) p x))
+  after-head at a p (rule k t) =
+      let l = part s (at + 3) (at + 3 + sizeAt s at) in
+      after-judged (judgeRule (length (a .rules)) (length (a .pictures)) at l) (at + 3 + sizeAt s at) (withRule a (symbolsOf l))
+      (λ x. subst (λ n. P n (withRule a (symbolsOf l))) (part-long s (at + 3) (at + 3 + sizeAt s at) (omega arith) k) (by-rule at a l (part-bytes s small (at + 3) (at + 3 + sizeAt s at)) p x))
 
   after-field : (at : ℕ) (a : Content) → P at a → After (fieldAt s at a)
   unfolding fieldAt
-  after-field at a p = after-head at a p (headAt s at) (within s at)
+  after-field at a p = after-head at a p (head-is s at)
 
   before-kept : {at : ℕ} {a : Content} → P 0 nothing → Before s at a → P at a
   before-kept p start = p

@@ -63,23 +63,18 @@ pub record First (p o : ℕ) (l : List ℕ) (r : Refusal) : Type 0 where
   pub amiss : Amiss p (o + 2 * i) (getD l (2 * i) 0) (getD l (2 * i + 1) 0) r
 
 -- pair i + 1 of a list is pair i after its first two
-pair : (Q : ℕ → ℕ → Type 0) (k b : ℕ) (l : List ℕ) (i : ℕ) → Q (getD l (2 * i) 0) (getD l (2 * i + 1) 0) → Q (getD (k ∷ b ∷ l) (2 * suc i) 0) (getD (k ∷ b ∷ l) (2 * suc i + 1) 0)
-pair Q k b l i q =
-    let x : 2 * suc i ≡ suc (suc (2 * i)) = omega arith in
-    let y : 2 * suc i + 1 ≡ suc (suc (2 * i + 1)) = omega arith in
-    rw (y, x) q
+module _ (k b : ℕ) (l : List ℕ) (i : ℕ) where
+  kind-after : getD (k ∷ b ∷ l) (2 * suc i) 0 ≡ getD l (2 * i) 0
+  kind-after = let e : 2 * suc i ≡ suc (suc (2 * i)) = omega arith in rw e
 
-unpair : (Q : ℕ → ℕ → Type 0) (k b : ℕ) (l : List ℕ) (i : ℕ) → Q (getD (k ∷ b ∷ l) (2 * suc i) 0) (getD (k ∷ b ∷ l) (2 * suc i + 1) 0) → Q (getD l (2 * i) 0) (getD l (2 * i + 1) 0)
-unpair Q k b l i q =
-    let x : 2 * suc i ≡ suc (suc (2 * i)) = omega arith in
-    let y : 2 * suc i + 1 ≡ suc (suc (2 * i + 1)) = omega arith in
-    rw (y, x) at q
+  second-after : getD (k ∷ b ∷ l) (2 * suc i + 1) 0 ≡ getD l (2 * i + 1) 0
+  second-after = let e : 2 * suc i + 1 ≡ suc (suc (2 * i + 1)) = omega arith in rw e
 
 -- the first pair of a list, and those before pair n of the rest
 each : {p : ℕ} (k b : ℕ) (l : List ℕ) (n : ℕ) → IsSymbol p k b → ((j : ℕ) → j < n → IsSymbol p (getD l (2 * j) 0) (getD l (2 * j + 1) 0))
     → (j : ℕ) → j < suc n → IsSymbol p (getD (k ∷ b ∷ l) (2 * j) 0) (getD (k ∷ b ∷ l) (2 * j + 1) 0)
 each k b l n w f zero h = w
-each {p} k b l n w f (suc j) h = pair (IsSymbol p) k b l j (f j (omega arith))
+each k b l n w f (suc j) h = rw (kind-after k b l j, second-after k b l j) (f j (omega arith))
 
 pub found : (p o : ℕ) (l : List ℕ) {r : Refusal} → judgeSymbols p o l ≡ Refused r → First p o l r
 unfolding judgeSymbols firstOf
@@ -99,7 +94,7 @@ found p o (k ∷ b ∷ l) {r} e = go (judgeSymbol p o k b) e (told p o k b) (λ 
           i = suc (x .i);
           inside = omega (arith, x .inside);
           sound = each k b l (x .i) w (x .sound);
-          amiss = rw n (pair (λ k b. Amiss p (o + 2 + 2 * x .i) k b r) k b l (x .i) (x .amiss));
+          amiss = rw (n, kind-after k b l (x .i), second-after k b l (x .i)) (x .amiss);
         }
 
 pub is-first : (p o : ℕ) (l : List ℕ) {r : Refusal} (i : ℕ) → 2 * i + 1 < length l → ((j : ℕ) → j < i → IsSymbol p (getD l (2 * j) 0) (getD l (2 * j + 1) 0))
@@ -110,7 +105,7 @@ is-first p o (k ∷ []) i h f w = absurd (omega arith)
 is-first p o (k ∷ b ∷ l) zero h f w =
     let n : o + 2 * 0 ≡ o = omega arith in
     rw (fails p o k b (rw n at w))
-is-first p o (k ∷ b ∷ l) {r} (suc i) h f w =
+is-first p o (k ∷ b ∷ l) (suc i) h f w =
     let n : o + 2 * suc i ≡ o + 2 + 2 * i = omega arith in
     rw (passes p o k b (f 0 (omega arith)))
-    (is-first p (o + 2) l i (omega arith) (λ j x. unpair (IsSymbol p) k b l j (f (suc j) (omega arith))) (unpair (λ k b. Amiss p (o + 2 + 2 * i) k b r) k b l i (rw n at w)))
+    (is-first p (o + 2) l i (omega arith) (λ j x. rw (kind-after k b l j, second-after k b l j) at (f (suc j) (omega arith))) (rw (n, kind-after k b l i, second-after k b l i) at w))

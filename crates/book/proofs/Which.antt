@@ -1,21 +1,19 @@
 -- A book is refused for a symbol just where a rule's symbols before it are sound and it is not. Assumes nothing.
-use Prim.Native.Nat.{ℕ, _+_, _-_, _*_, _%_, _≤_, _<_}
+use Prim.Native.Nat.{ℕ, _+_, _*_, _%_, _≤_, _<_}
 use mathlib.Core.Path.{_≡_, refl, sym, ap, _∙_}
 use mathlib.Core.Logic.{_↔_}
 use mathlib.Core.List.{List}
 use native.Mathlib.Omega.{arith}
-use lib.ListN.{length, getD, drop, length-take, length-drop}
-use lib.Seq.{getD-take, getD-drop}
+use lib.ListN.{length, getD}
 use lib.Dec.{eqb}
 use Rattle.book.specs.declared.Answer.{Answer}
 use Rattle.book.specs.declared.Answer.the-variants.{Accepted, Refused}
 use Rattle.book.specs.declared.Head.{Head}
-use Rattle.book.specs.declared.Head.the-variants.{Short, Unknown, Picture, Rule}
 use Rattle.book.specs.declared.Refusal.{Refusal}
 use Rattle.book.specs.declared.Refusal.the-variants.{Cut, OtherTag, NoRule, UnknownKind, UndefinedPicture}
 use Rattle.book.specs.Answers.{number, value}
 use Rattle.book.specs.Content.{Content, withRule}
-use Rattle.book.specs.Format.{sizeAt, headAt, judgePicture, symbolsOf, judgeRule, stops, outcome, pictureField, ruleField, part, fieldOf, fieldAt, means, Meaning, refused, ended, meaningOf}
+use Rattle.book.specs.Format.{sizeAt, judgePicture, symbolsOf, judgeRule, stops, outcome, pictureField, ruleField, part, fieldOf, fieldAt, means, Meaning, refused, ended, meaningOf}
 use Rattle.book.specs.Numbers.{Gives}
 use Rattle.book.specs.Which.{Before, Faulty, WhichSymbol}
 use Rattle.book.proofs.Cases.{by-test}
@@ -23,7 +21,7 @@ use Rattle.book.proofs.Numbers.{gives}
 use Rattle.book.proofs.Turns.{head-rule}
 use Rattle.book.proofs.Symbols.{found, is-first}
 use Rattle.book.proofs.Judged.{number-same, picture-refused, rule-judged, rule-left}
-use Rattle.book.proofs.Fields.{HeadIs, short, unknown, picture, rule, head-is}
+use Rattle.book.proofs.Fields.{part-long, part-at, HeadIs, short, unknown, picture, rule, head-is}
 use Rattle.book.proofs.Before.{rest-stops, rest-before, Ending, ends, halts, ending}
 
 -- the body of the field at a place
@@ -33,11 +31,11 @@ body s at = part s (at + 3) (at + 3 + sizeAt s at)
 module _ (s : List ℕ) (at : ℕ) (h : at + 3 + sizeAt s at ≤ length s) where
   body-long : length (body s at) ≡ sizeAt s at
   unfolding body
-  body-long = simp (length-take, length-drop) (omega arith)
+  body-long = let e = part-long s (at + 3) (at + 3 + sizeAt s at) (omega arith) h in omega arith
 
   body-at : (i j : ℕ) → at + 3 + i ≡ j → i < sizeAt s at → getD (body s at) i 0 ≡ getD s j 0
   unfolding body
-  body-at i j e k = getD-take (at + 3 + sizeAt s at - (at + 3)) (drop (at + 3) s) i 0 (omega arith) ∙ getD-drop (at + 3) s i 0 ∙ ap (λ (n : ℕ). getD s n 0) e
+  body-at i j e k = part-at s (at + 3) (at + 3 + sizeAt s at) i (omega arith) ∙ ap (λ (n : ℕ). getD s n 0) e
 
   -- pair i of the body, in the book
   module _ (even : sizeAt s at % 2 ≡ 0) (i : ℕ) (k : 2 * i < sizeAt s at) where
@@ -103,19 +101,19 @@ module _ {s : List ℕ} {r : Refusal} (late : 17 ≤ number r) {at : ℕ} {a : C
   by-stop : (x : Refusal) → number x ≤ 16 → stops x ≡ stops r → Faulty s r
   by-stop x h q = let o : x ≡ r = cc in absurd (let n : number x ≡ number r = ap number o in omega arith)
 
-  by-head : (h : Head) → HeadIs s at h → fieldOf s at a h ≡ stops r → Faulty s r
+  by-head : {h : Head} → HeadIs s at h → fieldOf s at a h ≡ stops r → Faulty s r
   unfolding fieldOf pictureField ruleField body
-  by-head Short short q = by-stop (Cut at) (omega arith) q
-  by-head Unknown unknown q = by-stop (OtherTag at) (omega arith) q
-  by-head (Picture b e) (picture h) q = absurd (omega (arith, picture-refused (a .pictures) at (body s at) (sym (by-judged (judgePicture (a .pictures) at (body s at)) _ _ q))))
-  by-head (Rule b e) (rule h t) q = by-rule h t (by-judged (judgeRule (length (a .rules)) (length (a .pictures)) at (body s at)) _ _ q)
+  by-head short q = by-stop (Cut at) (omega arith) q
+  by-head unknown q = by-stop (OtherTag at) (omega arith) q
+  by-head (picture h) q = absurd (omega (arith, picture-refused (a .pictures) at (body s at) (sym (by-judged (judgePicture (a .pictures) at (body s at)) _ _ q))))
+  by-head (rule h t) q = by-rule h t (by-judged (judgeRule (length (a .rules)) (length (a .pictures)) at (body s at)) _ _ q)
 
 refused-just : (s : List ℕ) (r : Refusal) → 17 ≤ number r → (meaningOf s ≡ refused r) ↔ Faulty s r
 unfolding ended fieldAt
 refused-just s r late = (λ e. go (ending s) e, is-refused)
   where
     go : {m : Meaning} → Ending s m → m ≡ refused r → Faulty s r
-    go (halts {at} {a} p h k) q = by-head late p (headAt s at) (head-is s at) (k ∙ ap stops cc)
+    go (halts {at} {a} p h k) q = by-head late p (head-is s at) (k ∙ ap stops cc)
     go (ends {a} p) q =
         by-test (eqb (length (a .rules)) 0)
         (λ t. let w : refused (NoRule (length s)) ≡ refused r = rw t at q in let o : NoRule (length s) ≡ r = cc in absurd (let n : 9 ≡ number r = ap number o in omega arith))

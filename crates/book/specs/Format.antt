@@ -64,7 +64,7 @@ unfoldable pub firstOf : Answer → Answer → Answer
 firstOf Accepted y = y
 firstOf (Refused r) y = Refused r
 
--- the pairs of a body, where the first stands at i: the first that is no symbol counts
+-- the pairs of a body, where the first stands at i: the first at fault counts
 unfoldable pub judgeSymbols : ℕ → ℕ → List ℕ → Answer
 judgeSymbols p i [] = Accepted
 judgeSymbols p i (k ∷ []) = Accepted

@@ -46,8 +46,8 @@ unfoldable pub runs : ℕ → (ℕ → List ℕ) → List ℕ
 runs zero f = []
 runs (suc n) f = runs n f ++ f n
 
--- the empty book, which is case 1 of the paper; the rule `a`; and a small book for each of the other refusals: of its last rule's three symbols
--- the first is sound, and the other two are not
+-- the empty book, which is case 1 of the paper; the rule `a`; and a small book for each of the other refusals. Those of 6 and 7 have kind 2 too; those of
+-- 17 and 18 a sound symbol and two at fault
 abbrev pub cases : List Case
 cases =
     record { bytes = []; number = 9; value = 0 }
@@ -58,7 +58,7 @@ cases =
     ∷ record { bytes = 0x50 ∷ 0 ∷ 1 ∷ 97 ∷ 0x50 ∷ 0 ∷ 1 ∷ 97 ∷ []; number = 4; value = 4 }
     ∷ record { bytes = runs 17 (λ k. 0x50 ∷ 0 ∷ 1 ∷ k ∷ []); number = 5; value = 64 }
     ∷ record { bytes = 0x50 ∷ 0 ∷ 1 ∷ 97 ∷ 0x52 ∷ 0 ∷ 1 ∷ 2 ∷ []; number = 6; value = 4 }
-    ∷ record { bytes = 0x50 ∷ 0 ∷ 1 ∷ 97 ∷ 0x52 ∷ 0 ∷ 130 ∷ replicate 130 0; number = 7; value = 4 }
+    ∷ record { bytes = 0x50 ∷ 0 ∷ 1 ∷ 97 ∷ 0x52 ∷ 0 ∷ 130 ∷ replicate 130 2; number = 7; value = 4 }
     ∷ record { bytes = runs 65 (λ k. 0x52 ∷ 0 ∷ 2 ∷ 0 ∷ 97 ∷ []); number = 8; value = 320 }
     ∷ record { bytes = 0x50 ∷ 0 ∷ 1 ∷ 97 ∷ 0x52 ∷ 0 ∷ 6 ∷ 1 ∷ 0 ∷ 2 ∷ 0 ∷ 1 ∷ 1 ∷ []; number = 17; value = 9 }
     ∷ record { bytes = 0x50 ∷ 0 ∷ 1 ∷ 97 ∷ 0x52 ∷ 0 ∷ 6 ∷ 1 ∷ 0 ∷ 1 ∷ 1 ∷ 2 ∷ 0 ∷ []; number = 18; value = 9 }

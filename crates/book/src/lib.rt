@@ -22,7 +22,7 @@ pub struct Book {
     pub rules: usize,
 }
 
-// Why a book is refused, with the field's offset; the book's length where it has no rule; the offset of a symbol's first byte where that is none.
+// Why a book is refused, and where: the field's offset; the offset of a symbol's first byte for the last two; the book's length where it has no rule.
 pub enum Refusal {
     Cut(usize),
     OtherTag(usize),
@@ -247,7 +247,7 @@ fn store(room: &mut [u16; Book::PLACES], from: usize, body: &[u8])
     }
 }
 
-// What the symbols of a rule, whose body starts at `start`, are answered after `pictures` pictures: the first that is none counts.
+// What the symbols of a rule, whose body starts at `start`, are answered after `pictures` pictures: the first that is at fault counts.
 fn judge_symbols(body: &[u8], start: usize, pictures: u8) -> Answer
     requires { ⌜ start + length (now body) ≤ 2 ^ 64 ⌝ }
     ensures { λ r. ⌜ r ≡ judgeSymbols pictures start (now (body .entry)) ⌝ }

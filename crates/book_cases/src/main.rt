@@ -194,7 +194,7 @@ fn two_faults() {
     show(b"65th rule of 130 bytes", &long);
 }
 
-// Rules of which several symbols are none: the first of them counts.
+// Rules with several symbols at fault: the first of them counts.
 fn several_symbols() {
     show(
         b"kind 2, then no picture yet",

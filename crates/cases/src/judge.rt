@@ -5,7 +5,7 @@ use crate::leaf::at8;
 use crate::leaf::plus;
 use crate::leaf::put;
 
-// The answer, what a sound book holds, and how many symbols of a refused rule are none.
+// The answer, what a sound book holds, and how many symbols of a refused rule are at fault.
 pub struct Judged {
     pub number: usize,
     pub value: usize,
@@ -159,7 +159,7 @@ fn rule_fault(bytes: &[u8], from: usize, size: usize, p: usize, k: usize) -> Jud
     symbols_fault(bytes, plus(from, 3), size, p)
 }
 
-// All symbols from the last to the first, so that the first which is none is found last.
+// All symbols from the last to the first, so that the first at fault is found last.
 fn symbols_fault(bytes: &[u8], body: usize, size: usize, p: usize) -> Judged {
     let mut found = refused(0, 0);
     let mut amiss = 0;

@@ -37,7 +37,7 @@ const LOW: usize = 230;
 // Counts at the limit, by number again.
 pub const COUNTS: usize = 231;
 
-// Rules refused of which several symbols are none.
+// Books refused for a rule with several symbols at fault.
 pub const SEVERAL: usize = 255;
 
 // ---- the sequence

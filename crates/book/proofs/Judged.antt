@@ -8,13 +8,13 @@ use borrow.Author.Tests.{lt-ltb, le-ltb, le-leb, lt-leb, eq-eqb, ne-eqb}
 use lib.ListN.{length}
 use lib.Dec.{leb}
 use Rattle.book.specs.declared.Refusal.{Refusal}
-use Rattle.book.specs.declared.Refusal.the-variants.{PictureBody, PictureShared, PictureMany, RuleBody, RuleLong, RuleMany}
+use Rattle.book.specs.declared.Refusal.the-variants.{PictureBody, PictureMany, RuleBody, RuleLong, RuleMany}
 use Rattle.book.specs.declared.Answer.{Answer}
 use Rattle.book.specs.declared.Answer.the-variants.{Accepted, Refused}
 use Rattle.book.specs.Limits.{mostPictures, mostRules, mostSymbols}
 use Rattle.book.specs.Answers.{number, numberOf}
 use Rattle.book.specs.Content.{Content, withPicture}
-use Rattle.book.specs.Format.{ascending, shares, judgePicture, judgeSymbols, judgeRule, goes, stops, outcome, pictureField}
+use Rattle.book.specs.Format.{ascending, judgePicture, judgeSymbols, judgeRule, goes, stops, outcome, pictureField}
 use Rattle.book.proofs.Cases.{by-test, by-lt, by-eq, never}
 
 pub number-same : {x y : Refusal} → Refused x ≡ Refused y → number x ≡ number y
@@ -32,37 +32,30 @@ module _ (at e : ℕ) (a : Content) (m : List ℕ) where
     unfolding pictureField judgePicture outcome
     picture-body x = rw (lt-leb mostPictures (length (a .pictures)) h, x)
 
-    pub picture-shared : ascending m ≡ true → shares (a .pictures) m ≡ true → pictureField at e a m ≡ stops (PictureShared at)
+    pub picture-goes : ascending m ≡ true → pictureField at e a m ≡ goes e (withPicture a m)
     unfolding pictureField judgePicture outcome
-    picture-shared x y = rw (lt-leb mostPictures (length (a .pictures)) h, x, y)
+    picture-goes x = rw (lt-leb mostPictures (length (a .pictures)) h, x)
 
-    pub picture-goes : ascending m ≡ true → shares (a .pictures) m ≡ false → pictureField at e a m ≡ goes e (withPicture a m)
-    unfolding pictureField judgePicture outcome
-    picture-goes x y = rw (lt-leb mostPictures (length (a .pictures)) h, x, y)
-
--- an accepted picture is one of few, ascends and shares no byte
-pub picture-sound : (ps : List (List ℕ)) (at : ℕ) (m : List ℕ) → judgePicture ps at m ≡ Accepted → (length ps < mostPictures) × (ascending m ≡ true) × (shares ps m ≡ false)
+-- an accepted picture is one of few and ascends
+pub picture-sound : (p at : ℕ) (m : List ℕ) → judgePicture p at m ≡ Accepted → (p < mostPictures) × (ascending m ≡ true)
 unfolding judgePicture
-picture-sound ps at m e =
-    by-lt (length ps) mostPictures
+picture-sound p at m e =
+    by-lt p mostPictures
     (λ h.
     by-test (ascending m)
-    (λ x.
-    by-test (shares ps m)
-    (λ y. never (rw (lt-leb mostPictures (length ps) h, x, y) at e))
-    (λ y. (h, x, y)))
-    (λ x. never (rw (lt-leb mostPictures (length ps) h, x) at e)))
-    (λ h. never (rw (le-leb mostPictures (length ps) h) at e))
+    (λ x. (h, x))
+    (λ x. never (rw (lt-leb mostPictures p h, x) at e)))
+    (λ h. never (rw (le-leb mostPictures p h) at e))
 
--- a picture is refused with 5, 3 or 4
-pub picture-refused : (ps : List (List ℕ)) (at : ℕ) (m : List ℕ) {r : Refusal} → judgePicture ps at m ≡ Refused r → number r ≤ 5
+-- a picture is refused with 5 or 3
+pub picture-refused : (p at : ℕ) (m : List ℕ) {r : Refusal} → judgePicture p at m ≡ Refused r → number r ≤ 5
 unfolding judgePicture
-picture-refused ps at m e =
-    by-test (leb mostPictures (length ps))
+picture-refused p at m e =
+    by-test (leb mostPictures p)
     (λ x. few (PictureMany at) (rw x at e) (omega arith))
     (λ x.
     by-test (ascending m)
-    (λ y. by-test (shares ps m) (λ z. few (PictureShared at) (rw (x, y, z) at e) (omega arith)) (λ z. never (sym (rw (x, y, z) at e))))
+    (λ y. never (sym (rw (x, y) at e)))
     (λ y. few (PictureBody at) (rw (x, y) at e) (omega arith)))
   where
     few : {r : Refusal} (x : Refusal) → Refused x ≡ Refused r → number x ≤ 5 → number r ≤ 5

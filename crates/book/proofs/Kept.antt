@@ -25,7 +25,7 @@ part-bytes s small b e i =
 
 -- P holds of a place and of what stands before it
 module _ (P : ℕ → Content → Type 0)
-    (by-picture : (at : ℕ) (a : Content) (m : List ℕ) → ByteText m → P at a → judgePicture (a .pictures) at m ≡ Accepted → P (at + 3 + length m) (withPicture a m))
+    (by-picture : (at : ℕ) (a : Content) (m : List ℕ) → ByteText m → P at a → judgePicture (length (a .pictures)) at m ≡ Accepted → P (at + 3 + length m) (withPicture a m))
     (by-rule : (at : ℕ) (a : Content) (l : List ℕ) → ByteText l → P at a → judgeRule (length (a .rules)) (length (a .pictures)) at l ≡ Accepted → P (at + 3 + length l) (withRule a (symbolsOf l)))
     (s : List ℕ) (small : ByteText s) where
   abbrev After : Outcome → Type 0
@@ -43,7 +43,7 @@ module _ (P : ℕ → Content → Type 0)
   after-head at a p unknown = tt
   after-head at a p (picture k) =
       let m = part s (at + 3) (at + 3 + sizeAt s at) in
-      after-judged (judgePicture (a .pictures) at m) (at + 3 + sizeAt s at) (withPicture a m)
+      after-judged (judgePicture (length (a .pictures)) at m) (at + 3 + sizeAt s at) (withPicture a m)
       (λ x. subst (λ n. P n (withPicture a m)) (part-long s (at + 3) (at + 3 + sizeAt s at) (omega arith) k) (by-picture at a m (part-bytes s small (at + 3) (at + 3 + sizeAt s at)) p x))
   after-head at a p (rule k t) =
       let l = part s (at + 3) (at + 3 + sizeAt s at) in

@@ -5,7 +5,6 @@ pub mod Turns
 pub mod Tables
 pub mod Members
 pub mod Pictures
-pub mod Distinct
 pub mod Records
 pub mod Held
 pub mod Judged
@@ -18,6 +17,7 @@ pub mod Sounds
 pub mod Sizes
 pub mod Fitting
 pub mod Meant
+pub mod Apart
 pub mod Accepted
 pub mod Numbers
 pub mod Which

@@ -1,23 +1,20 @@
 -- The rules of a record's arrays, place by place, and they are the rules of what an accepted book holds. Assumes nothing.
 use Prim.Native.Nat.{ℕ, _+_, _*_, _<_}
-use mathlib.Core.Path.{_≡_, refl, sym, ap, _∙_}
-use mathlib.Core.Bool.{Bool, true, false, _&&_}
+use mathlib.Core.Path.{_≡_, sym, ap, _∙_}
 use mathlib.Core.List.{List, []}
 use native.Mathlib.Omega.{arith}
-use borrow.Author.Tests.{eq-eqb, ne-eqb, lt-ltb, le-ltb}
 use lib.ListN.{length, getD, List·getD-eq-default}
 use lib.Seq.{ext-getD}
-use lib.Dec.{eqb, ltb}
+use Rattle.sets.proofs.Laws.{has-empty}
 use Rattle.meaning.specs.Rules.{Rules, count, size, symbol}
 use Rattle.book.specs.declared.Book.{Book}
-use Rattle.book.specs.Limits.{mostPictures, mostRules, mostSymbols}
-use Rattle.book.specs.Content.{Content, member, inSome, pictureFrom, table, rows, sizes, mapOf, recordOf}
+use Rattle.book.specs.Limits.{mostRules, mostSymbols}
+use Rattle.book.specs.Content.{Content, member, table, rows, sizes, mapOf, recordOf}
 use Rattle.book.specs.Sound.{Sound}
 use Rattle.book.specs.Meant.{rulesOf, memberIn, rulesIn, rulesHeld}
-use Rattle.book.proofs.Cases.{by-test, by-lt, by-eq, clash}
+use Rattle.book.proofs.Cases.{by-test, by-lt}
 use Rattle.book.proofs.Tables.{length-table, getD-table, is-table, getD-rows, getD-sizes}
-use Rattle.book.proofs.Pictures.{getD-map, picture-none, picture-of}
-use Rattle.book.proofs.Members.{member-some}
+use Rattle.book.proofs.Pictures.{getD-map, length-map, has-pictures}
 
 -- ---- place by place
 
@@ -40,9 +37,6 @@ module _ (symbols lengths picture : List ℕ) (n : ℕ) where
 -- ---- the rules of a book
 
 module _ (a : Content) (S : Sound a) where
-  abbrev ps : List (List ℕ)
-  ps = a .pictures
-
   -- the rules by the arrays and by the lists
   rules-same : table (length (a .rules)) (λ k. table (getD (sizes mostRules (a .rules)) k 0) (λ j. getD (rows mostRules mostSymbols (a .rules)) (mostSymbols * k + j) 0)) ≡ a .rules
   rules-same =
@@ -55,44 +49,15 @@ module _ (a : Content) (S : Sound a) where
       ∙ sym (is-table (getD (sizes mostRules (a .rules)) k 0) _ (getD (a .rules) k []) (sym s)
       (λ j l. sym (getD-rows mostRules mostSymbols (a .rules) k j m (omega (arith, S .short k))))))
 
-  module _ (p c : ℕ) where
-    -- where the byte is in no picture
-    without : {v : ℕ} → v ≡ mostPictures → (member c (getD ps p []) ≡ true → ⊥) → (ltb p mostPictures && eqb v p) ≡ member c (getD ps p [])
-    without {v} e n =
-        by-test (member c (getD ps p []))
-        (λ t. absurd (n t))
-        (λ t. rw (t, e) (by-lt p mostPictures (λ l. rw (lt-ltb p mostPictures l) (ne-eqb mostPictures p (λ q. omega arith))) (λ l. rw (le-ltb p mostPictures l))))
-
-    -- a picture with a member is one of the book
-    inside : (q : ℕ) → member c (getD ps q []) ≡ true → q < length ps
-    unfolding member
-    inside q t =
-        by-lt q (length ps) (λ l. l)
-        (λ l. clash t (rw (List·getD-eq-default ps [] {n = q} l)))
-
-    -- by the map and by the lists
-    member-same : memberIn (mapOf ps) p c ≡ member c (getD ps p [])
-    unfolding memberIn
-    member-same =
-        by-lt c 256
-        (λ h.
-        rw (lt-ltb c 256 h, getD-map ps c h)
-        (by-test (inSome ps c)
-        (λ u.
-        let x = picture-of 0 ps c u in
-        let l = inside (x .0) (x .2) in
-        let e : pictureFrom 0 ps c ≡ x .0 = omega (arith, x .1) in
-        by-eq (x .0) p
-        (λ q.
-        let m : member c (getD ps p []) ≡ true = rw q at (x .2) in
-        rw (e, m, eq-eqb (x .0) p q) (rw (lt-ltb p mostPictures (omega (arith, S .fewPictures)))))
-        (λ q. by-test (member c (getD ps p [])) (λ t. absurd (q (S .apart (x .0) p c (x .2) t))) (λ t. rw (e, t, ne-eqb (x .0) p q) (none (ltb p mostPictures)))))
-        (λ u. without (picture-none 0 ps c u) (λ t. clash (member-some ps p c t) u))))
-        (λ h. by-test (member c (getD ps p [])) (λ t. absurd (omega (arith, S .bytes p c t))) (λ t. rw (t, le-ltb c 256 h)))
-      where
-        none : (b : Bool) → (b && false) ≡ false
-        none true = refl
-        none false = refl
+  -- the members by the map and by the lists
+  pub member-same : (p c : ℕ) → memberIn (mapOf (a .pictures)) p c ≡ member c (getD (a .pictures) p [])
+  unfolding memberIn
+  member-same p c =
+      by-lt c 256
+      (λ h. rw (getD-map (a .pictures) c h) (has-pictures (a .pictures) (S .fewPictures) p c))
+      (λ h.
+      rw (List·getD-eq-default (mapOf (a .pictures)) 0 {n = c} (rw length-map h), has-empty p)
+      (by-test (member c (getD (a .pictures) p [])) (λ t. absurd (omega (arith, S .bytes p c t))) sym))
 
   -- the record that holds the content has its rules
   pub rules-same-held : {b : Book} → b ≡ recordOf a → rulesHeld b ≡ rulesOf a

@@ -1,45 +1,43 @@
 -- What a read hands back is what its bytes mean, in the numbers of the paper; and small books by computation. Assumes nothing.
 use Prim.Native.Nat.{ℕ, _≤_, _<_}
 use mathlib.Core.Path.{_≡_, refl, sym, ap, ap₂, _∙_}
-use mathlib.Core.Logic.{_↔_}
+use mathlib.Core.Logic.{_↔_, _≢_}
 use mathlib.Core.Bool.{cond}
 use mathlib.Core.List.{List}
 use native.Mathlib.Omega.{arith}
 use lib.Dec.{eqb}
 use Rattle.book.specs.declared.Refusal.{Refusal}
-use Rattle.book.specs.declared.Refusal.the-variants.{Cut, OtherTag, PictureBody, PictureShared, PictureMany, RuleBody, RuleLong, RuleMany, NoRule, UnknownKind, UndefinedPicture}
+use Rattle.book.specs.declared.Refusal.the-variants.{Cut, OtherTag, PictureBody, PictureMany, RuleBody, RuleLong, RuleMany, NoRule, UnknownKind, UndefinedPicture}
 use Rattle.book.specs.Answers.{number, value, numberOf, valueOf}
-use Rattle.book.specs.Content.{Content, member, inSome}
-use Rattle.book.specs.Format.{headAt, rises, ascending, shares, judgePicture, judgeSymbol, firstOf, judgeSymbols, symbolsOf, judgeRule, outcome, pictureField, ruleField, fieldOf, fieldAt, Meaning, means, refused, follow, ended, fields, meaningOf, handed, readOf}
-use Rattle.book.specs.Numbers.{Gives, IsAccepted, IsRefused, Numbered, runs, cases, Answered}
+use Rattle.book.specs.Content.{Content}
+use Rattle.book.specs.Format.{headAt, rises, ascending, judgePicture, judgeSymbol, firstOf, judgeSymbols, symbolsOf, judgeRule, outcome, pictureField, ruleField, fieldOf, fieldAt, Meaning, means, refused, follow, ended, fields, meaningOf, handed, readOf}
+use Rattle.book.specs.Numbers.{Gives, IsAccepted, IsRefused, Numbered, times, cases, Answered}
 
--- a refusal's number is 1 to 9, 17 or 18
-pub number-some : (r : Refusal) → (1 ≤ number r) × (9 < number r → (17 ≤ number r) × (number r ≤ 18))
-number-some (Cut at) = (omega arith, λ h. omega arith)
-number-some (OtherTag at) = (omega arith, λ h. omega arith)
-number-some (PictureBody at) = (omega arith, λ h. omega arith)
-number-some (PictureShared at) = (omega arith, λ h. omega arith)
-number-some (PictureMany at) = (omega arith, λ h. omega arith)
-number-some (RuleBody at) = (omega arith, λ h. omega arith)
-number-some (RuleLong at) = (omega arith, λ h. omega arith)
-number-some (RuleMany at) = (omega arith, λ h. omega arith)
-number-some (NoRule n) = (omega arith, λ h. omega arith)
-number-some (UnknownKind at) = (omega arith, λ h. omega arith)
-number-some (UndefinedPicture at) = (omega arith, λ h. omega arith)
+-- a refusal's number is 1 to 9, 17 or 18, and never 4
+pub number-some : (r : Refusal) → (1 ≤ number r) × (9 < number r → (17 ≤ number r) × (number r ≤ 18)) × (number r ≢ 4)
+number-some (Cut at) = (omega arith, λ h. omega arith, λ h. omega arith)
+number-some (OtherTag at) = (omega arith, λ h. omega arith, λ h. omega arith)
+number-some (PictureBody at) = (omega arith, λ h. omega arith, λ h. omega arith)
+number-some (PictureMany at) = (omega arith, λ h. omega arith, λ h. omega arith)
+number-some (RuleBody at) = (omega arith, λ h. omega arith, λ h. omega arith)
+number-some (RuleLong at) = (omega arith, λ h. omega arith, λ h. omega arith)
+number-some (RuleMany at) = (omega arith, λ h. omega arith, λ h. omega arith)
+number-some (NoRule n) = (omega arith, λ h. omega arith, λ h. omega arith)
+number-some (UnknownKind at) = (omega arith, λ h. omega arith, λ h. omega arith)
+number-some (UndefinedPicture at) = (omega arith, λ h. omega arith, λ h. omega arith)
 
 -- a refusal is known by its number and its value
 pub refusal-of : ℕ → ℕ → Refusal
 refusal-of i v =
-    cond (eqb i 1) (Cut v) (cond (eqb i 2) (OtherTag v) (cond (eqb i 3) (PictureBody v) (cond (eqb i 4) (PictureShared v) (cond (eqb i 5) (PictureMany v)
+    cond (eqb i 1) (Cut v) (cond (eqb i 2) (OtherTag v) (cond (eqb i 3) (PictureBody v) (cond (eqb i 5) (PictureMany v)
     (cond (eqb i 6) (RuleBody v) (cond (eqb i 7) (RuleLong v) (cond (eqb i 8) (RuleMany v) (cond (eqb i 9) (NoRule v) (cond (eqb i 17) (UnknownKind v)
-    (UndefinedPicture v))))))))))
+    (UndefinedPicture v)))))))))
 
 pub is-refusal : (r : Refusal) → refusal-of (number r) (value r) ≡ r
 unfolding refusal-of
 is-refusal (Cut at) = refl
 is-refusal (OtherTag at) = refl
 is-refusal (PictureBody at) = refl
-is-refusal (PictureShared at) = refl
 is-refusal (PictureMany at) = refl
 is-refusal (RuleBody at) = refl
 is-refusal (RuleLong at) = refl
@@ -62,6 +60,7 @@ module _ (s : List ℕ) where
   is-refused r e = record {
     named = ap (λ m. numberOf (handed m .answer)) e;
     some = number-some r .0;
+    unused = number-some r .2;
     later = number-some r .1;
     placed = ap (λ m. valueOf (handed m .answer)) e;
     empty = ap (λ m. handed m .book) e;
@@ -94,5 +93,5 @@ gives s r = (into, λ e. (is-refused s r e .named, is-refused s r e .placed))
         e ∙ ap refused (sym (is-refusal x) ∙ ap₂ refusal-of (sym (f .named) ∙ n) (sym (f .placed) ∙ v) ∙ is-refusal r)
 
 pub answered : Answered cases
-unfolding runs readOf handed meaningOf fields follow ended fieldAt fieldOf headAt pictureField judgePicture ascending rises shares inSome member ruleField outcome judgeRule judgeSymbols judgeSymbol firstOf symbolsOf
+unfolding times readOf handed meaningOf fields follow ended fieldAt fieldOf headAt pictureField judgePicture ascending rises ruleField outcome judgeRule judgeSymbols judgeSymbol firstOf symbolsOf
 answered = ((refl, refl), ((refl, refl), ((refl, refl), ((refl, refl), ((refl, refl), ((refl, refl), ((refl, refl), ((refl, refl), ((refl, refl), ((refl, refl), ((refl, refl), ((refl, refl), tt))))))))))))

@@ -24,7 +24,7 @@ pub record Reading (s : List ℕ) (at : ℕ) (b : Book) : Type 0 where
   pub rest : Rest s at content
 
 pub starts : (s : List ℕ) {b : Book} → b ≡ recordOf nothing → Reading s 0 b
-starts s q = record { content = nothing; held = record { is = q; few = omega arith }; rest = rest-start s }
+starts s q = record { content = nothing; held = q; rest = rest-start s }
 
 -- a step from there
 abbrev pub Stepping : List ℕ → ℕ → Book → Step → Type 0
@@ -65,10 +65,10 @@ module _ (s : List ℕ) (at : ℕ) {b : Book} (R : Reading s at b) (h : length s
 
   pub no-rule : b .rules ≡ 0 → meaningOf s ≡ refused (NoRule (length s))
   unfolding ended
-  no-rule z = at-end ∙ rw (eq-eqb (length (R .content .rules)) 0 (sym (rules-held (R .content) (R .held .is)) ∙ z))
+  no-rule z = at-end ∙ rw (eq-eqb (length (R .content .rules)) 0 (sym (rules-held (R .content) (R .held)) ∙ z))
 
   pub accepted-read : (b .rules ≡ 0 → ⊥) → record { answer = Accepted; book = b } ≡ readOf s
   unfolding ended readOf handed
   accepted-read n =
-      rw (at-end, ne-eqb (length (R .content .rules)) 0 (λ z. n (rules-held (R .content) (R .held .is) ∙ z)))
-      (λ i. record { answer = Accepted; book = R .held .is i })
+      rw (at-end, ne-eqb (length (R .content .rules)) 0 (λ z. n (rules-held (R .content) (R .held) ∙ z)))
+      (λ i. record { answer = Accepted; book = R .held i })

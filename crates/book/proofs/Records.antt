@@ -1,34 +1,34 @@
 -- The record holds what the book holds: when it is empty, and after a picture or a rule more. Assumes nothing.
 use Prim.Native.Nat.{ℕ, _*_, _/_, _%_, _≤_, _<_}
 use mathlib.Core.Path.{_≡_, refl, sym, ap, _∙_}
-use mathlib.Core.Bool.{false}
 use mathlib.Core.List.{List, [], _∷_, _++_}
 use native.Mathlib.Omega.{arith}
 use lib.ListN.{length, getD, set, replicate, List·getD-eq-default}
+use Rattle.sets.proofs.Laws.{setWhere-none}
 use Rattle.book.specs.Limits.{mostPictures, mostRules, mostSymbols, places}
-use Rattle.book.specs.Content.{Content, nothing, withPicture, withRule, pictureFrom, symbolAt, rows, sizes, mapOf, recordOf}
-use Rattle.book.specs.Format.{shares, symbolsOf}
+use Rattle.book.specs.Content.{Content, nothing, withPicture, withRule, member, picturesWith, symbolAt, rows, sizes, mapOf, recordOf}
+use Rattle.book.specs.Format.{symbolsOf}
 use Rattle.book.specs.Leaves.{pictured, added}
 use Rattle.book.proofs.Tables.{table-constant, rows-set, sizes-set, snoc-here, snoc-other, length-snoc}
 use Rattle.book.proofs.Pictures.{map-more}
 
-pub empty-held : record { symbols = replicate places 0; lengths = replicate mostRules 0; picture = replicate 256 mostPictures; pictures = 0; rules = 0 } ≡ recordOf nothing
-unfolding recordOf pictureFrom rows sizes mapOf
+pub empty-held : record { symbols = replicate places 0; lengths = replicate mostRules 0; picture = replicate 256 0; pictures = 0; rules = 0 } ≡ recordOf nothing
+unfolding recordOf picturesWith member rows sizes mapOf
 empty-held = λ i. record {
   symbols = table-constant places 0 (λ k. symbolAt [] (k / mostSymbols) (k % mostSymbols)) (λ k. refl) i;
   lengths = table-constant mostRules 0 (λ k. length (getD {A = List ℕ} [] k [])) (λ k. refl) i;
-  picture = table-constant 256 mostPictures (pictureFrom 0 []) (λ k. refl) i;
+  picture = table-constant 256 0 (picturesWith []) (λ k. setWhere-none mostPictures _ (λ p h. refl)) i;
   pictures = 0;
   rules = 0;
 }
 
 -- a picture more
-pub picture-held : (a : Content) (m : List ℕ) → shares (a .pictures) m ≡ false → pictured (recordOf a) m ≡ recordOf (withPicture a m)
+pub picture-held : (a : Content) (m : List ℕ) → pictured (recordOf a) m ≡ recordOf (withPicture a m)
 unfolding recordOf pictured
-picture-held a m h = λ i. record {
+picture-held a m = λ i. record {
   symbols = rows mostRules mostSymbols (a .rules);
   lengths = sizes mostRules (a .rules);
-  picture = map-more (a .pictures) m h i;
+  picture = map-more (a .pictures) m i;
   pictures = sym (length-snoc (a .pictures) m) i;
   rules = length (a .rules);
 }

@@ -6,15 +6,13 @@ use native.Mathlib.Nat.{mul-le-mul-right, suc-mul}
 use native.Mathlib.Omega.{arith}
 use lib.ListN.{length, getD}
 use Rattle.book.specs.declared.Answer.the-variants.{Accepted}
-use Rattle.book.specs.Limits.{mostSymbols}
+use Rattle.book.specs.Limits.{mostPictures, mostRules, mostSymbols}
 use Rattle.book.specs.Content.{Content, nothing, withPicture, withRule}
 use Rattle.book.specs.Format.{judgePicture, symbolsOf, judgeRule}
 use Rattle.rows.specs.Rows.{ByteText}
 use Rattle.book.specs.Sound.{Sound, total, pictureBytes, ruleBytes, bytesOf, AcceptedIsLawful, MostBook}
 use Rattle.book.proofs.Records.{length-symbols}
 use Rattle.book.proofs.Judged.{picture-sound, rule-sound}
-use Rattle.book.proofs.Members.{ascending-at}
-use Rattle.book.proofs.Distinct.{joined, Distinct, distinct-more, few-joined}
 use Rattle.book.proofs.Kept.{kept}
 use Rattle.book.proofs.Sounds.{sound-nothing, sound-picture, sound-rule}
 
@@ -25,37 +23,32 @@ unfolding total
 total-snoc w [] l = omega arith
 total-snoc w (x ∷ ls) l = omega (arith, total-snoc w ls l)
 
--- the bytes of the pictures' fields, of which each has a header
-total-pictures : (ps : List (List ℕ)) → total pictureBytes ps ≡ length ps * 3 + total length ps
+-- at most n lists, of which none adds more than b
+total-most : (w : List ℕ → ℕ) (b : ℕ) (ls : List (List ℕ)) → ((k : ℕ) → w (getD ls k []) ≤ b) → total w ls ≤ length ls * b
 unfolding total
-total-pictures [] = refl
-total-pictures (m ∷ ps) = omega (arith, total-pictures ps)
+total-most w b [] h = omega arith
+total-most w b (l ∷ ls) h = omega (arith, h 0, total-most w b ls (λ k. h (suc k)), suc-mul (length ls) b)
 
--- no rule is longer than b
-total-rules : (b : ℕ) (rs : List (List ℕ)) → ((k : ℕ) → length (getD rs k []) ≤ b) → total ruleBytes rs ≤ length rs * (3 + 2 * b)
-unfolding total
-total-rules b [] h = omega arith
-total-rules b (r ∷ rs) h = omega (arith, h 0, total-rules b rs (λ k. h (suc k)), suc-mul (length rs) (3 + 2 * b))
+most : (w : List ℕ → ℕ) (b n : ℕ) (ls : List (List ℕ)) → length ls ≤ n → ((k : ℕ) → w (getD ls k []) ≤ b) → total w ls ≤ n * b
+most w b n ls few h = omega (arith, total-most w b ls h, mul-le-mul-right b few)
 
 -- ---- the whole book
 
--- what stands before a place is sound, ends there, and has no member twice
+-- what stands before a place is sound and ends there
 record Sized (at : ℕ) (a : Content) : Type 0 where
   pub sound : Sound a
   pub ends : at ≡ bytesOf a
-  pub distinct : Distinct (joined (a .pictures))
 
 sized-nothing : Sized 0 nothing
-unfolding total joined
-sized-nothing = record { sound = sound-nothing; ends = refl; distinct = λ i j h k q. omega arith }
+unfolding total
+sized-nothing = record { sound = sound-nothing; ends = refl }
 
-sized-picture : (at : ℕ) (a : Content) (m : List ℕ) → ByteText m → Sized at a → judgePicture (a .pictures) at m ≡ Accepted → Sized (at + 3 + length m) (withPicture a m)
+sized-picture : (at : ℕ) (a : Content) (m : List ℕ) → ByteText m → Sized at a → judgePicture (length (a .pictures)) at m ≡ Accepted → Sized (at + 3 + length m) (withPicture a m)
 sized-picture at a m small z x =
-    let (few, up, apart) = picture-sound (a .pictures) at m x in
+    let (few, up) = picture-sound (length (a .pictures)) at m x in
     record {
-      sound = sound-picture a (z .sound) m small few up apart;
+      sound = sound-picture a (z .sound) m small few up;
       ends = rw (total-snoc pictureBytes (a .pictures) m) (omega (arith, z .ends));
-      distinct = distinct-more (a .pictures) m (z .distinct) (ascending-at m up .1) apart;
     }
 
 sized-rule : (at : ℕ) (a : Content) (l : List ℕ) → ByteText l → Sized at a → judgeRule (length (a .rules)) (length (a .pictures)) at l ≡ Accepted → Sized (at + 3 + length l) (withRule a (symbolsOf l))
@@ -64,7 +57,6 @@ sized-rule at a l small z x =
     record {
       sound = sound-rule a (z .sound) at l small x;
       ends = rw (total-snoc ruleBytes (a .rules) (symbolsOf l)) (omega (arith, z .ends, length-symbols l, h .3));
-      distinct = z .distinct;
     }
 
 pub lawful : AcceptedIsLawful
@@ -76,7 +68,13 @@ lawful s small a e =
       sound = S;
       someRule = k .1;
       whole = z .ends;
-      small = omega (arith, z .ends, few-joined (a .pictures) (z .distinct) (S .bytes), total-pictures (a .pictures), S .fewPictures, total-rules mostSymbols (a .rules) (S .short), mul-le-mul-right (3 + 2 * mostSymbols) (S .fewRules));
+      small =
+          omega (
+            arith,
+            z .ends,
+            most pictureBytes (3 + 256) mostPictures (a .pictures) (S .fewPictures) (λ p. omega (arith, S .upTo p)),
+            most ruleBytes (3 + 2 * mostSymbols) mostRules (a .rules) (S .fewRules) (λ k. omega (arith, S .short k)),
+          );
     }
 
 pub most-book : MostBook

@@ -1,16 +1,16 @@
 -- The content of an accepted book is sound, and a rule names only pictures that stand earlier. Assumes nothing.
 use Prim.Native.Nat.{ℕ, zero, suc, _+_, _*_, _≤_, _<_}
-use mathlib.Core.Path.{_≡_, refl, sym, _∙_}
+use mathlib.Core.Path.{_≡_, refl}
 use mathlib.Core.Logic.{inl, inr}
-use mathlib.Core.Bool.{true, false}
-use mathlib.Core.List.{List, [], _∷_, _++_}
+use mathlib.Core.Bool.{true}
+use mathlib.Core.List.{List, [], _∷_}
 use native.Mathlib.Omega.{arith}
 use lib.ListN.{length, getD}
 use Rattle.book.specs.declared.Answer.{Answer}
 use Rattle.book.specs.declared.Answer.the-variants.{Accepted, Refused}
 use Rattle.book.specs.Limits.{mostPictures, mostSymbols}
 use Rattle.book.specs.Content.{Content, nothing, withPicture, withRule, member}
-use Rattle.book.specs.Format.{ascending, shares, judgeSymbol, firstOf, judgeSymbols, symbolsOf, judgeRule, goes, outcome, ruleField}
+use Rattle.book.specs.Format.{ascending, judgeSymbol, firstOf, judgeSymbols, symbolsOf, judgeRule, goes, outcome, ruleField}
 use Rattle.rows.specs.Rows.{ByteText}
 use Rattle.book.specs.Sound.{Sound, NamedEarlier}
 use Rattle.book.specs.Which.{IsSymbol}
@@ -19,8 +19,7 @@ use Rattle.book.proofs.Symbols.{is-symbol}
 use Rattle.book.proofs.Tables.{length-snoc, at-snoc}
 use Rattle.book.proofs.Records.{length-symbols}
 use Rattle.book.proofs.Judged.{rule-sound}
-use Rattle.book.proofs.Members.{member-byte, member-some, rises-at, ascending-at, unshared}
-use Rattle.book.proofs.Distinct.{few-rising}
+use Rattle.book.proofs.Members.{member-byte, rises-at, ascending-at, few-rising}
 
 pub sound-nothing : Sound nothing
 unfolding member
@@ -34,16 +33,12 @@ sound-nothing = record {
   upTo = λ p. omega arith;
   rising = λ p i h. omega arith;
   bytes = λ p c h. clash h refl;
-  apart = λ p q c h k. clash h refl;
 }
 
 -- ---- a picture more
 
 module _ (a : Content) (S : Sound a) (m : List ℕ) (small : ByteText m)
-    (h : length (a .pictures) < mostPictures) (up : ascending m ≡ true) (k : shares (a .pictures) m ≡ false) where
-  not-both : {A : Type 0} (q c : ℕ) → member c m ≡ true → member c (getD (a .pictures) q []) ≡ true → A
-  not-both q c t u = clash (member-some (a .pictures) q c u) (unshared (a .pictures) m c k t)
-
+    (h : length (a .pictures) < mostPictures) (up : ascending m ≡ true) where
   pub sound-picture : Sound (withPicture a m)
   sound-picture = record {
     fewPictures = rw length-snoc (omega arith);
@@ -55,10 +50,6 @@ module _ (a : Content) (S : Sound a) (m : List ℕ) (small : ByteText m)
     upTo = λ p. at-snoc (a .pictures) m (λ l. length l ≤ 256) p (λ e. few-rising m small (ascending-at m up .1)) (λ n. S .upTo p);
     rising = λ p i. at-snoc (a .pictures) m (λ l. suc i < length l → getD l i 0 < getD l (suc i) 0) p (λ e. rises-at m (ascending-at m up .1) i) (λ n. S .rising p i);
     bytes = λ p c. at-snoc (a .pictures) m (λ l. member c l ≡ true → c < 256) p (λ e. member-byte m small c) (λ n. S .bytes p c);
-    apart = λ p q c.
-        at-snoc (a .pictures) m (λ l. member c l ≡ true → member c (getD (a .pictures ++ m ∷ []) q []) ≡ true → p ≡ q) p
-        (λ e t. at-snoc (a .pictures) m (λ l. member c l ≡ true → p ≡ q) q (λ f u. e ∙ sym f) (λ f u. not-both q c t u))
-        (λ e t. at-snoc (a .pictures) m (λ l. member c l ≡ true → p ≡ q) q (λ f u. not-both p c u t) (λ f u. S .apart p q c t u));
   }
 
 -- ---- a rule more
@@ -95,7 +86,6 @@ sound-rule a S at l small e =
       upTo = S .upTo;
       rising = S .rising;
       bytes = S .bytes;
-      apart = S .apart;
     }
 
 -- a picture named by a rule stands earlier

@@ -9,9 +9,10 @@ use borrow.Author.Tests.{lt-ltb, le-ltb, eq-eqb, ne-eqb}
 use lib.ListN.{length, getD, set, drop, drop-of-length-le}
 use lib.Seq.{drop-cons, sets}
 use lib.Dec.{eqb, ltb}
+use Rattle.sets.specs.Sets.{adding}
 use Rattle.book.specs.Format.{sizeAt, headAt, rises, ascending, judgeSymbol, firstOf, judgeSymbols, symbolsOf}
 use Rattle.book.specs.Limits.{mostPictures}
-use Rattle.book.specs.Leaves.{taken, mark}
+use Rattle.book.specs.Leaves.{mark}
 use Rattle.book.specs.declared.Head.the-variants.{Short, Unknown, Picture, Rule}
 use Rattle.book.specs.declared.Refusal.{Refusal}
 use Rattle.book.specs.declared.Answer.the-variants.{Accepted, Refused}
@@ -89,19 +90,7 @@ unfolding rises
 rises-ends s i = one-left rises true refl (λ k. refl) s i
 
 module _ (map s : List ℕ) (i : ℕ) where
-  pub taken-here : i < length s → (getD map (getD s i 0) 0 ≡ mostPictures → ⊥) → taken map (drop i s) ≡ true
-  unfolding taken
-  taken-here h k = rw (drop-one s i h, ne-eqb (getD map (getD s i 0) 0) mostPictures k)
-
-  pub taken-more : i < length s → getD map (getD s i 0) 0 ≡ mostPictures → taken map (drop i s) ≡ taken map (drop (i + 1) s)
-  unfolding taken
-  taken-more h k = rw (drop-one s i h, eq-eqb (getD map (getD s i 0) 0) mostPictures k)
-
-  pub taken-ends : length s ≤ i → taken map (drop i s) ≡ false
-  unfolding taken
-  taken-ends h = rw (drop-of-length-le s h)
-
-  pub mark-more : (p : ℕ) → i < length s → mark p map (drop i s) ≡ mark p (set map (getD s i 0) p) (drop (i + 1) s)
+  pub mark-more : (p : ℕ) → i < length s → mark p map (drop i s) ≡ mark p (set map (getD s i 0) (adding mostPictures (getD map (getD s i 0) 0) p)) (drop (i + 1) s)
   unfolding mark
   mark-more p h = rw (drop-one s i h)
 

@@ -105,7 +105,7 @@ module _ {s : List ℕ} {r : Refusal} (late : 17 ≤ number r) {at : ℕ} {a : C
   unfolding fieldOf pictureField ruleField body
   by-head short q = by-stop (Cut at) (omega arith) q
   by-head unknown q = by-stop (OtherTag at) (omega arith) q
-  by-head (picture h) q = absurd (omega (arith, picture-refused (a .pictures) at (body s at) (sym (by-judged (judgePicture (a .pictures) at (body s at)) _ _ q))))
+  by-head (picture h) q = absurd (omega (arith, picture-refused (length (a .pictures)) at (body s at) (sym (by-judged (judgePicture (length (a .pictures)) at (body s at)) _ _ q))))
   by-head (rule h t) q = by-rule h t (by-judged (judgeRule (length (a .rules)) (length (a .pictures)) at (body s at)) _ _ q)
 
 refused-just : (s : List ℕ) (r : Refusal) → 17 ≤ number r → (meaningOf s ≡ refused r) ↔ Faulty s r

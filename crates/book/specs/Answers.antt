@@ -3,14 +3,13 @@ use Prim.Native.Nat.{ℕ}
 use Rattle.book.specs.declared.Refusal.{Refusal}
 use Rattle.book.specs.declared.Answer.{Answer}
 use Rattle.book.specs.declared.Answer.the-variants.{Accepted, Refused}
-use Rattle.book.specs.declared.Refusal.the-variants.{Cut, OtherTag, PictureBody, PictureShared, PictureMany, RuleBody, RuleLong, RuleMany, NoRule, UnknownKind, UndefinedPicture}
+use Rattle.book.specs.declared.Refusal.the-variants.{Cut, OtherTag, PictureBody, PictureMany, RuleBody, RuleLong, RuleMany, NoRule, UnknownKind, UndefinedPicture}
 
 -- the number of a refusal
 abbrev pub number : Refusal → ℕ
 number (Cut at) = 1
 number (OtherTag at) = 2
 number (PictureBody at) = 3
-number (PictureShared at) = 4
 number (PictureMany at) = 5
 number (RuleBody at) = 6
 number (RuleLong at) = 7
@@ -24,7 +23,6 @@ abbrev pub value : Refusal → ℕ
 value (Cut at) = at
 value (OtherTag at) = at
 value (PictureBody at) = at
-value (PictureShared at) = at
 value (PictureMany at) = at
 value (RuleBody at) = at
 value (RuleLong at) = at

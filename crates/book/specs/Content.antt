@@ -1,9 +1,10 @@
 -- What a rule book holds, as lists, and the record that holds it. Assumes nothing.
 use Prim.Native.Nat.{ℕ, zero, suc, _*_, _/_, _%_}
-use mathlib.Core.Bool.{Bool, false, _||_, cond}
+use mathlib.Core.Bool.{Bool, false, _||_}
 use mathlib.Core.List.{List, [], _∷_, _++_}
 use lib.ListN.{length, getD}
 use lib.Dec.{eqb}
+use Rattle.sets.specs.Sets.{setWhere}
 use Rattle.book.specs.declared.Book.{Book}
 use Rattle.book.specs.Limits.{mostPictures, mostRules, mostSymbols}
 
@@ -31,15 +32,9 @@ unfoldable pub member : ℕ → List ℕ → Bool
 member c [] = false
 member c (x ∷ m) = eqb c x || member c m
 
--- is the byte c in one of the pictures
-unfoldable pub inSome : List (List ℕ) → ℕ → Bool
-inSome [] c = false
-inSome (m ∷ ms) c = member c m || inSome ms c
-
--- the number of the first picture with the byte c, where the first has the number p; the limit where there is none
-unfoldable pub pictureFrom : ℕ → List (List ℕ) → ℕ → ℕ
-pictureFrom p [] c = mostPictures
-pictureFrom p (m ∷ ms) c = cond (member c m) p (pictureFrom (suc p) ms c)
+-- the pictures with the byte c, as a set: picture p at bit p
+unfoldable pub picturesWith : List (List ℕ) → ℕ → ℕ
+picturesWith ps c = setWhere mostPictures (λ p. member c (getD ps p []))
 
 -- symbol j of rule k, 0 where there is none
 abbrev pub symbolAt : List (List ℕ) → ℕ → ℕ → ℕ
@@ -60,11 +55,11 @@ rows n w rs = table (n * w) (λ i. symbolAt rs (i / w) (i % w))
 unfoldable pub sizes : ℕ → List (List ℕ) → List ℕ
 sizes n rs = table n (λ k. length (getD rs k []))
 
--- the picture of every byte value
+-- the pictures with each byte value
 unfoldable pub mapOf : List (List ℕ) → List ℕ
-mapOf ps = table 256 (pictureFrom 0 ps)
+mapOf ps = table 256 (picturesWith ps)
 
--- places for the symbols of each rule, each rule's length, the picture of every byte value, and the two counts
+-- places for the symbols of each rule, each rule's length, the pictures with each byte value, and the two counts
 unfoldable pub recordOf : Content → Book
 recordOf a = record {
   symbols = rows mostRules mostSymbols (a .rules);

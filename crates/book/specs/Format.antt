@@ -1,6 +1,6 @@
 -- What the bytes of a rule book mean: field by field, each judged in the order of the paper. Assumes nothing.
 use Prim.Native.Nat.{ℕ, zero, suc, _+_, _-_, _*_, _%_}
-use mathlib.Core.Bool.{Bool, true, false, _&&_, _||_, cond}
+use mathlib.Core.Bool.{Bool, true, _&&_, cond}
 use mathlib.Core.List.{List, [], _∷_}
 use lib.ListN.{length, getD, take, drop}
 use lib.Dec.{eqb, leb, ltb}
@@ -10,9 +10,9 @@ use Rattle.book.specs.declared.Answer.{Answer}
 use Rattle.book.specs.declared.ReadBook.{ReadBook}
 use Rattle.book.specs.declared.Head.the-variants.{Short, Unknown, Picture, Rule}
 use Rattle.book.specs.declared.Answer.the-variants.{Accepted, Refused}
-use Rattle.book.specs.declared.Refusal.the-variants.{Cut, OtherTag, PictureBody, PictureShared, PictureMany, RuleBody, RuleLong, RuleMany, NoRule, UnknownKind, UndefinedPicture}
+use Rattle.book.specs.declared.Refusal.the-variants.{Cut, OtherTag, PictureBody, PictureMany, RuleBody, RuleLong, RuleMany, NoRule, UnknownKind, UndefinedPicture}
 use Rattle.book.specs.Limits.{mostPictures, mostRules, mostSymbols}
-use Rattle.book.specs.Content.{Content, nothing, withPicture, withRule, inSome, recordOf}
+use Rattle.book.specs.Content.{Content, nothing, withPicture, withRule, recordOf}
 
 -- ---- a field's header
 
@@ -40,16 +40,11 @@ rises (c ∷ d ∷ m) = ltb c d && rises (d ∷ m)
 unfoldable pub ascending : List ℕ → Bool
 ascending m = ltb 0 (length m) && rises m
 
--- is a byte of m in one of the pictures
-unfoldable pub shares : List (List ℕ) → List ℕ → Bool
-shares ps [] = false
-shares ps (c ∷ m) = inSome ps c || shares ps m
-
--- the picture at a place, with the body m, after the pictures ps: 5, 3, 4
-unfoldable pub judgePicture : List (List ℕ) → ℕ → List ℕ → Answer
-judgePicture ps at m =
-    cond (leb mostPictures (length ps)) (Refused (PictureMany at))
-    (cond (ascending m) (cond (shares ps m) (Refused (PictureShared at)) Accepted) (Refused (PictureBody at)))
+-- the picture at a place, with the body m, after p pictures: 5, 3
+unfoldable pub judgePicture : ℕ → ℕ → List ℕ → Answer
+judgePicture p at m =
+    cond (leb mostPictures p) (Refused (PictureMany at))
+    (cond (ascending m) Accepted (Refused (PictureBody at)))
 
 -- ---- a rule's body
 
@@ -97,7 +92,7 @@ outcome (Refused r) e a = stops r
 
 -- a picture with the body m, which ends before e
 unfoldable pub pictureField : ℕ → ℕ → Content → List ℕ → Outcome
-pictureField at e a m = outcome (judgePicture (a .pictures) at m) e (withPicture a m)
+pictureField at e a m = outcome (judgePicture (length (a .pictures)) at m) e (withPicture a m)
 
 -- a rule with the body l, which ends before e
 unfoldable pub ruleField : ℕ → ℕ → Content → List ℕ → Outcome

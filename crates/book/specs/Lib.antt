@@ -5,6 +5,7 @@ pub mod Content
 pub mod Format
 pub mod Sound
 pub mod Meant
+pub mod Apart
 pub mod Numbers
 pub mod Which
 pub mod Leaves

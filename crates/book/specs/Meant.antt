@@ -1,13 +1,13 @@
 -- A book as rules, which is what tables and walks are about: the rules of a content, and those of the arrays of a record. Assumes nothing.
 use Prim.Native.Nat.{ℕ, _+_, _*_, _≤_}
 use mathlib.Core.Path.{_≡_}
-use mathlib.Core.Bool.{Bool, _&&_}
+use mathlib.Core.Bool.{Bool}
 use mathlib.Core.List.{List, []}
 use lib.ListN.{getD}
-use lib.Dec.{eqb, ltb}
+use Rattle.sets.specs.Sets.{has}
 use Rattle.meaning.specs.Rules.{Rules, fits}
 use Rattle.book.specs.declared.Book.{Book}
-use Rattle.book.specs.Limits.{mostPictures, mostRules, mostSymbols}
+use Rattle.book.specs.Limits.{mostRules, mostSymbols}
 use Rattle.book.specs.Content.{Content, member, table, recordOf}
 use Rattle.book.specs.Format.{means, meaningOf}
 use Rattle.book.specs.Sound.{Lawful}
@@ -16,9 +16,9 @@ use Rattle.book.specs.Sound.{Lawful}
 abbrev pub rulesOf : Content → Rules
 rulesOf a = record { rules = a .rules; member = λ p c. member c (getD (a .pictures) p []) }
 
--- by the picture map, is the byte c a member of picture p
+-- by the picture map, is the byte c a member of picture p: is p in the set of c
 unfoldable pub memberIn : List ℕ → ℕ → ℕ → Bool
-memberIn map p c = ltb c 256 && ltb p mostPictures && eqb (getD map c 0) p
+memberIn map p c = has (getD map c 0) p
 
 -- the n rules of a record's symbols, lengths and picture map
 unfoldable pub rulesIn : List ℕ → List ℕ → List ℕ → ℕ → Rules

@@ -1,6 +1,7 @@
 -- What a read hands back, in the numbers of the paper; and small books with theirs. Assumes nothing.
 use Prim.Native.Nat.{ℕ, zero, suc, _≤_, _<_}
 use mathlib.Core.Path.{_≡_}
+use mathlib.Core.Logic.{_≢_}
 use mathlib.Core.List.{List, [], _∷_, _++_}
 use lib.ListN.{replicate}
 use Rattle.book.specs.declared.Refusal.{Refusal}
@@ -18,10 +19,11 @@ pub record IsAccepted (s : List ℕ) (a : Content) : Type 0 where
   pub none : valueOf (readOf s .answer) ≡ 0
   pub held : readOf s .book ≡ recordOf a
 
--- the number of the refusal, 1 to 9 or 17 or 18, and its value, and the record with no picture and no rule
+-- the number of the refusal, 1 to 9 but for 4, or 17 or 18, and its value, and the record with no picture and no rule
 pub record IsRefused (s : List ℕ) (r : Refusal) : Type 0 where
   pub named : numberOf (readOf s .answer) ≡ number r
   pub some : 1 ≤ number r
+  pub unused : number r ≢ 4
   pub later : 9 < number r → (17 ≤ number r) × (number r ≤ 18)
   pub placed : valueOf (readOf s .answer) ≡ value r
   pub empty : readOf s .book ≡ recordOf nothing
@@ -41,25 +43,25 @@ pub record Case : Type 0 where
   pub number : ℕ
   pub value : ℕ
 
--- f 0, f 1, .. : n of them, one after the other
-unfoldable pub runs : ℕ → (ℕ → List ℕ) → List ℕ
-runs zero f = []
-runs (suc n) f = runs n f ++ f n
+-- n times l, one after the other
+unfoldable pub times : ℕ → List ℕ → List ℕ
+times zero l = []
+times (suc n) l = l ++ times n l
 
--- the empty book, which is case 1 of the paper; the rule `a`; and a small book for each of the other refusals. Those of 6 and 7 have kind 2 too; those of
--- 17 and 18 a sound symbol and two at fault
+-- the empty book, which is case 1 of the paper; the rule `a`; two pictures that share a byte and a rule; and a small book for each of the other refusals.
+-- Those of 6 and 7 have kind 2 too; those of 17 and 18 a sound symbol and two at fault
 abbrev pub cases : List Case
 cases =
     record { bytes = []; number = 9; value = 0 }
     ∷ record { bytes = 0x52 ∷ 0 ∷ 2 ∷ 0 ∷ 97 ∷ []; number = 0; value = 0 }
+    ∷ record { bytes = 0x50 ∷ 0 ∷ 1 ∷ 97 ∷ 0x50 ∷ 0 ∷ 2 ∷ 97 ∷ 98 ∷ 0x52 ∷ 0 ∷ 4 ∷ 1 ∷ 0 ∷ 1 ∷ 1 ∷ []; number = 0; value = 0 }
     ∷ record { bytes = 0x52 ∷ 0 ∷ 2 ∷ 0 ∷ 97 ∷ 0x52 ∷ []; number = 1; value = 5 }
     ∷ record { bytes = 0x52 ∷ 0 ∷ 2 ∷ 0 ∷ 97 ∷ 0x51 ∷ 0 ∷ 0 ∷ []; number = 2; value = 5 }
     ∷ record { bytes = 0x52 ∷ 0 ∷ 2 ∷ 0 ∷ 97 ∷ 0x50 ∷ 0 ∷ 0 ∷ []; number = 3; value = 5 }
-    ∷ record { bytes = 0x50 ∷ 0 ∷ 1 ∷ 97 ∷ 0x50 ∷ 0 ∷ 1 ∷ 97 ∷ []; number = 4; value = 4 }
-    ∷ record { bytes = runs 17 (λ k. 0x50 ∷ 0 ∷ 1 ∷ k ∷ []); number = 5; value = 64 }
+    ∷ record { bytes = times 17 (0x50 ∷ 0 ∷ 1 ∷ 97 ∷ []); number = 5; value = 64 }
     ∷ record { bytes = 0x50 ∷ 0 ∷ 1 ∷ 97 ∷ 0x52 ∷ 0 ∷ 1 ∷ 2 ∷ []; number = 6; value = 4 }
     ∷ record { bytes = 0x50 ∷ 0 ∷ 1 ∷ 97 ∷ 0x52 ∷ 0 ∷ 130 ∷ replicate 130 2; number = 7; value = 4 }
-    ∷ record { bytes = runs 65 (λ k. 0x52 ∷ 0 ∷ 2 ∷ 0 ∷ 97 ∷ []); number = 8; value = 320 }
+    ∷ record { bytes = times 65 (0x52 ∷ 0 ∷ 2 ∷ 0 ∷ 97 ∷ []); number = 8; value = 320 }
     ∷ record { bytes = 0x50 ∷ 0 ∷ 1 ∷ 97 ∷ 0x52 ∷ 0 ∷ 6 ∷ 1 ∷ 0 ∷ 2 ∷ 0 ∷ 1 ∷ 1 ∷ []; number = 17; value = 9 }
     ∷ record { bytes = 0x50 ∷ 0 ∷ 1 ∷ 97 ∷ 0x52 ∷ 0 ∷ 6 ∷ 1 ∷ 0 ∷ 1 ∷ 1 ∷ 2 ∷ 0 ∷ []; number = 18; value = 9 }
     ∷ []

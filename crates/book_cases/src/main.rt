@@ -8,6 +8,7 @@ const PICTURES: usize = Book::PICTURES as usize;
 // The cases in their groups.
 fn main() {
     sound_books();
+    sharing();
     field_refusals();
     picture_refusals();
     rule_refusals();
@@ -110,6 +111,26 @@ fn sound_books() {
     );
 }
 
+// Pictures that share bytes.
+fn sharing() {
+    show(
+        b"equal pictures",
+        b"\x50\x00\x01a\x50\x00\x01a\x52\x00\x04\x01\x00\x01\x01",
+    );
+    show(
+        b"third shares with the first",
+        b"\x50\x00\x01a\x50\x00\x01b\x50\x00\x02Aa\x52\x00\x02\x01\x02",
+    );
+    show(
+        b"decimal and hexadecimal digits",
+        b"\x50\x00\x0a0123456789\x50\x00\x100123456789abcdef\x52\x00\x04\x01\x00\x01\x01",
+    );
+    show(
+        b"hexadecimal and decimal digits",
+        b"\x50\x00\x100123456789abcdef\x50\x00\x0a0123456789\x52\x00\x04\x01\x00\x01\x01",
+    );
+}
+
 // 1, 2 and 9.
 fn field_refusals() {
     show(b"empty", b"");
@@ -123,7 +144,7 @@ fn field_refusals() {
     show(b"other tag after a rule", b"\x52\x00\x02\x00a\x00\x00\x00");
 }
 
-// 3 and 4.
+// 3.
 fn picture_refusals() {
     show(b"picture empty", b"\x50\x00\x00");
     show(b"picture falls", b"\x50\x00\x02ba");
@@ -132,11 +153,6 @@ fn picture_refusals() {
     show(
         b"empty picture after a rule",
         b"\x52\x00\x02\x00a\x50\x00\x00",
-    );
-    show(b"shared", b"\x50\x00\x01a\x50\x00\x01a");
-    show(
-        b"shared with the first",
-        b"\x50\x00\x01a\x50\x00\x01b\x50\x00\x02Aa",
     );
 }
 
@@ -247,7 +263,7 @@ fn largest_book() {
     let one = full_picture();
     show(b"picture of 256 bytes", &one);
     let book = largest();
-    show(b"largest", &book[0..8688]);
+    show(b"largest", &book[0..12528]);
     show(b"largest and a rule", &book);
 }
 
@@ -328,34 +344,34 @@ fn full_picture() -> [u8; 264] {
     a
 }
 
-// 16 pictures of 16 bytes, 64 rules of 64 symbols, symbol j picture j % 16; and the header of one rule more.
-fn largest() -> [u8; 8691] {
-    let mut a = [0u8; 8691];
+// 16 pictures of all bytes, 64 rules of 64 symbols, symbol j picture j % 16; and the header of one rule more.
+fn largest() -> [u8; 12531] {
+    let mut a = [0u8; 12531];
     put_pictures(&mut a);
     put_rules(&mut a);
-    a[8688] = 0x52;
+    a[12528] = 0x52;
     a
 }
 
-// 19 bytes from one picture to the next.
+// 259 bytes from one picture to the next.
 fn put_pictures(a: &mut [u8]) {
-    put(a, 0, 304, 19, 0x50, 0);
-    put(a, 2, 304, 19, 16, 0);
-    let mut j: u8 = 0;
-    while j < 16 {
-        put(a, 3 + small(j), 304, 19, j, 16);
-        j += 1;
+    put(a, 0, 4144, 259, 0x50, 0);
+    put(a, 1, 4144, 259, 1, 0);
+    let mut p: usize = 0;
+    while p < 16 {
+        put(a, 259 * p + 3, 259 * p + 259, 1, 0, 1);
+        p += 1;
     }
 }
 
-// 131 bytes from one rule to the next, after the 304 of the pictures.
+// 131 bytes from one rule to the next, after the 4,144 of the pictures.
 fn put_rules(a: &mut [u8]) {
-    put(a, 304, 8688, 131, 0x52, 0);
-    put(a, 306, 8688, 131, 128, 0);
+    put(a, 4144, 12528, 131, 0x52, 0);
+    put(a, 4146, 12528, 131, 128, 0);
     let mut j: u8 = 0;
     while j < 64 {
-        put(a, 307 + 2 * small(j), 8688, 131, 1, 0);
-        put(a, 308 + 2 * small(j), 8688, 131, j % 16, 0);
+        put(a, 4147 + 2 * small(j), 12528, 131, 1, 0);
+        put(a, 4148 + 2 * small(j), 12528, 131, j % 16, 0);
         j += 1;
     }
 }

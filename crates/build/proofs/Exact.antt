@@ -44,10 +44,10 @@ says : {r : Rules} {old b : Five} {i v : ℕ} → Builds r old b i v → Says r 
 says (accepted l t k) = room refl (tables-few l t)
 says (no-room m) = none refl refl m
 
-same-content : {a a′ : Content} {m : Meaning} → m ≡ means a → m ≡ means a′ → a ≡ a′
+pub same-content : {a a′ : Content} {m : Meaning} → m ≡ means a → m ≡ means a′ → a ≡ a′
 same-content p q = cc
 
-not-refused : {A : Type 0} {a : Content} {why : Refusal} {m : Meaning} → m ≡ means a → m ≡ refused why → A
+pub not-refused : {A : Type 0} {a : Content} {why : Refusal} {m : Meaning} → m ≡ means a → m ≡ refused why → A
 not-refused p q = absurd (let z : _≡_ {A = ℕ} 0 1 = cc in omega arith)
 
 -- the reader gives no 10
@@ -105,12 +105,12 @@ alike x y w w′ = record {
 }
 
 -- the same number, value and buffers
-record Equal (b b′ : Five) (i i′ v v′ : ℕ) : Type 0 where
-  number-same : i ≡ i′
-  value-same : v ≡ v′
-  buffers-same : b ≡ b′
+pub record Equal (b b′ : Five) (i i′ v v′ : ℕ) : Type 0 where
+  pub number-same : i ≡ i′
+  pub value-same : v ≡ v′
+  pub buffers-same : b ≡ b′
 
-builds-same : {r : Rules} {old b b′ : Five} {i i′ v v′ : ℕ} → OfWords b → OfWords b′ → Builds r old b i v → Builds r old b′ i′ v′ → Equal b b′ i i′ v v′
+pub builds-same : {r : Rules} {old b b′ : Five} {i i′ v v′ : ℕ} → OfWords b → OfWords b′ → Builds r old b i v → Builds r old b′ i′ v′ → Equal b b′ i i′ v v′
 builds-same {r} {b = b} w w′ (accepted {n = n} l t k) (accepted {n = m} l′ t′ k′) =
     let e : n ≡ m = one-count t t′ in
     record { number-same = refl; value-same = e; buffers-same = one-five (subst (Tables r b) e t) t′ (alike k k′ w w′) }

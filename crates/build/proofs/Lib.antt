@@ -8,3 +8,4 @@ pub mod Parts
 pub mod Theory
 pub mod Promised
 pub mod Exact
+pub mod AsBefore

@@ -13,6 +13,9 @@ fn main() {
         9,
         9,
     );
+    digits(
+        b"\x50\x00\x100123456789abcdef\x50\x00\x0a0123456789\x52\x00\x04\x01\x00\x01\x01\x52\x00\x04\x01\x01\x00a",
+    );
     refused();
 }
 
@@ -32,13 +35,18 @@ fn book_x(bytes: &[u8]) {
     lend(b"book x, 9 rows lent but 8 of out", bytes, 2304, 9, 8);
 }
 
+// A hexadecimal and a decimal digit; a decimal digit and a: five rows, as a digit opens both rules and a letter the first.
+fn digits(bytes: &[u8]) {
+    lend(b"digits, 9 rows lent", bytes, 2304, 9, 9);
+    lend(b"digits, 4 rows lent", bytes, 1024, 4, 4);
+}
+
 // Books that the reader refuses.
 fn refused() {
     lend(b"empty book", b"", 256, 1, 1);
     lend(b"cut header", b"\x52\x00", 256, 1, 1);
     lend(b"other tag", b"\x52\x00\x02\x00a\x51\x00\x00", 256, 1, 1);
     lend(b"empty picture", b"\x50\x00\x00", 256, 1, 1);
-    lend(b"shared byte", b"\x50\x00\x01a\x50\x00\x01a", 256, 1, 1);
     lend(b"odd rule", b"\x52\x00\x03\x02a\x00", 256, 1, 1);
     lend(b"kind 2", b"\x52\x00\x02\x02a", 256, 1, 1);
     lend(

@@ -57,6 +57,9 @@ fn read(
     let got = book::read(bytes);
     let answer = got.answer;
     count(run, plus(report::READ, judged.number), 1);
+    if 0 < judged.sharing {
+        count(run, report::SHARING, 1);
+    }
     if 1 < judged.amiss {
         count(run, report::SEVERAL, 1);
     }

@@ -23,11 +23,11 @@ fn header(bytes: &mut [u8; 512], from: usize, tag: usize, size: usize) {
     put8(bytes, plus(from, 2), size);
 }
 
-// The picture of the letters whose owner is `number`, or nothing where there is none.
-fn picture(bytes: &mut [u8; 512], drawn: Drawn, owner: &[u8; 8], number: usize) -> Drawn {
+// The picture of the letters chosen for it, or nothing where there is none.
+fn picture(bytes: &mut [u8; 512], drawn: Drawn, chosen: &[u8; 16], number: usize) -> Drawn {
     let mut size = 0;
     for l in 0..5usize {
-        if at8(owner, l) == number {
+        if at8(chosen, plus(3 * l, number)) == 1 {
             put8(bytes, plus(plus(drawn.size, 3), size), at8(b"1;abc", l));
             size = plus(size, 1);
         }
@@ -71,27 +71,27 @@ fn symbols(bytes: &mut [u8; 512], body: usize, run: &mut [u64; 256], pictures: u
     }
 }
 
-// Each letter's owner: one of `pictures`, counted from 1, or none.
-fn owners(owner: &mut [u8; 8], run: &mut [u64; 256], pictures: usize) {
-    for l in 0..5usize {
-        put8(owner, l, draw(run, plus(pictures, 1)));
+// For each letter and each of three pictures whether it is chosen.
+fn choices(chosen: &mut [u8; 16], run: &mut [u64; 256]) {
+    for i in 0..15usize {
+        put8(chosen, i, draw(run, 2));
     }
 }
 
-// A book of up to three pictures, with rules before and after them, and its length. It is sound, unless no rule came.
+// A book of up to three pictures, which may share letters, with rules before and after them, and its length. It is sound, unless no rule came.
 pub fn book(bytes: &mut [u8; 512], run: &mut [u64; 256]) -> usize {
     let pictures = draw(run, 4);
-    let mut owner = [0u8; 8];
-    owners(&mut owner, run, pictures);
+    let mut chosen = [0u8; 16];
+    choices(&mut chosen, run);
     let mut drawn = Drawn {
         size: 0,
         pictures: 0,
     };
     let mut own = draw(run, 1000) as u64;
-    let mut next = 1;
+    let mut next = 0;
     for _ in 0..plus(plus(1, pictures), draw(run, 6)) {
-        if next <= pictures && draw(run, 2) == 0 {
-            drawn = picture(bytes, drawn, &owner, next);
+        if next < pictures && draw(run, 2) == 0 {
+            drawn = picture(bytes, drawn, &chosen, next);
             next = plus(next, 1);
         } else {
             own = other(own, run);
@@ -111,6 +111,37 @@ fn other(own: u64, run: &mut [u64; 256]) -> u64 {
     }
 }
 
+// ---- books of digits
+
+// A picture more: the first so many hexadecimal digits.
+fn first_digits(bytes: &mut [u8; 512], drawn: Drawn, size: usize) -> Drawn {
+    header(bytes, drawn.size, 0x50, size);
+    for i in 0..size {
+        put8(
+            bytes,
+            plus(plus(drawn.size, 3), i),
+            at8(b"0123456789abcdef", i),
+        );
+    }
+    Drawn {
+        size: plus(plus(drawn.size, 3), size),
+        pictures: plus(drawn.pictures, 1),
+    }
+}
+
+// Decimal and hexadecimal digits as pictures, either of them first, then up to six rules; and its length.
+pub fn digits(bytes: &mut [u8; 512], run: &mut [u64; 256]) -> usize {
+    let none = Drawn {
+        size: 0,
+        pictures: 0,
+    };
+    let more = if draw(run, 2) == 0 { 0 } else { 6 };
+    let one = first_digits(bytes, none, plus(10, more));
+    let both = first_digits(bytes, one, above(16, more));
+    let count = plus(1, draw(run, 6));
+    many_rules(bytes, both, run, count, 5).size
+}
+
 // ---- books at the limits
 
 // So many pictures of one byte each, from the byte a on.
@@ -127,11 +158,19 @@ fn many_pictures(bytes: &mut [u8; 512], count: usize) -> Drawn {
     }
 }
 
-fn many_rules(bytes: &mut [u8; 512], before: Drawn, run: &mut [u64; 256], count: usize) -> Drawn {
+// So many rules more, of up to `most` symbols.
+fn many_rules(
+    bytes: &mut [u8; 512],
+    before: Drawn,
+    run: &mut [u64; 256],
+    count: usize,
+    most: usize,
+) -> Drawn {
     let mut drawn = before;
     for _ in 0..count {
         let own = draw(run, 1000) as u64;
-        drawn = rule(bytes, drawn, run, own, 1);
+        let size = plus(1, draw(run, most));
+        drawn = rule(bytes, drawn, run, own, size);
     }
     drawn
 }
@@ -148,7 +187,7 @@ pub fn limits(bytes: &mut [u8; 512], run: &mut [u64; 256]) -> usize {
         let pictures = many_pictures(bytes, plus(15, count));
         rule(bytes, pictures, run, 1, 4).size
     } else if kind == 1 {
-        many_rules(bytes, none, run, plus(63, count)).size
+        many_rules(bytes, none, run, plus(63, count), 1).size
     } else {
         rule(bytes, none, run, 1, plus(63, count)).size
     }

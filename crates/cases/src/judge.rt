@@ -5,12 +5,13 @@ use crate::leaf::at8;
 use crate::leaf::plus;
 use crate::leaf::put;
 
-// The answer, what a sound book holds, and how many symbols of a refused rule are at fault.
+// The answer, what a sound book holds, how many of its pictures share a byte with an earlier one, and how many symbols of a refused rule are at fault.
 pub struct Judged {
     pub number: usize,
     pub value: usize,
     pub pictures: usize,
     pub rules: usize,
+    pub sharing: usize,
     pub amiss: usize,
 }
 
@@ -19,17 +20,19 @@ pub fn judge(bytes: &[u8], pictures: &mut [usize; 64], rules: &mut [usize; 256])
     let mut from = 0;
     let mut p = 0;
     let mut k = 0;
+    let mut sharing = 0;
     for _ in 0..bytes.len() {
         if bytes.len() <= from {
             break;
         }
-        let found = fault(bytes, from, pictures, p, k);
+        let found = fault(bytes, from, p, k);
         if found.number != 0 {
             return found;
         }
         let body = plus(from, 3);
         let size = size_at(bytes, from);
         if at8(bytes, from) == 0x50 {
+            sharing = plus(sharing, shared(bytes, body, size, pictures, p));
             note(pictures, p, body, size);
             p = plus(p, 1);
         } else {
@@ -46,6 +49,7 @@ pub fn judge(bytes: &[u8], pictures: &mut [usize; 64], rules: &mut [usize; 256])
         value: 0,
         pictures: p,
         rules: k,
+        sharing,
         amiss: 0,
     }
 }
@@ -56,6 +60,7 @@ fn refused(number: usize, value: usize) -> Judged {
         value,
         pictures: 0,
         rules: 0,
+        sharing: 0,
         amiss: 0,
     }
 }
@@ -79,7 +84,7 @@ fn size_at(bytes: &[u8], from: usize) -> usize {
 }
 
 // What the field at `from` is refused with, or the number 0.
-fn fault(bytes: &[u8], from: usize, pictures: &[usize], p: usize, k: usize) -> Judged {
+fn fault(bytes: &[u8], from: usize, p: usize, k: usize) -> Judged {
     let left = above(bytes.len(), from);
     let size = size_at(bytes, from);
     if left < 3 || left < plus(3, size) {
@@ -87,7 +92,7 @@ fn fault(bytes: &[u8], from: usize, pictures: &[usize], p: usize, k: usize) -> J
     }
     let tag = at8(bytes, from);
     if tag == 0x50 {
-        refused(picture_fault(bytes, plus(from, 3), size, pictures, p), from)
+        refused(picture_fault(bytes, plus(from, 3), size, p), from)
     } else if tag == 0x52 {
         rule_fault(bytes, from, size, p, k)
     } else {
@@ -95,15 +100,12 @@ fn fault(bytes: &[u8], from: usize, pictures: &[usize], p: usize, k: usize) -> J
     }
 }
 
-fn picture_fault(bytes: &[u8], body: usize, size: usize, pictures: &[usize], p: usize) -> usize {
+fn picture_fault(bytes: &[u8], body: usize, size: usize, p: usize) -> usize {
     if p == 16 {
         return 5;
     }
     if size == 0 || !ascends(bytes, body, size) {
         return 3;
-    }
-    if shares(bytes, body, size, pictures, p) {
-        return 4;
     }
     0
 }
@@ -117,13 +119,14 @@ fn ascends(bytes: &[u8], body: usize, size: usize) -> bool {
     true
 }
 
-fn shares(bytes: &[u8], body: usize, size: usize, pictures: &[usize], p: usize) -> bool {
+// 1 where a byte of the body is in one of the first p pictures, or 0.
+fn shared(bytes: &[u8], body: usize, size: usize, pictures: &[usize], p: usize) -> usize {
     for i in 0..size {
         if taken(bytes, at8(bytes, plus(body, i)), pictures, p) {
-            return true;
+            return 1;
         }
     }
-    false
+    0
 }
 
 // Whether one of the first p pictures has the byte.

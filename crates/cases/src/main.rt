@@ -36,6 +36,9 @@ fn one(run: &mut [u64; 256], number: u64) {
     let kind = report::draw(run, 8);
     let mut size = if kind == 7 {
         draw::limits(&mut bytes, run)
+    } else if kind == 6 {
+        report::count(run, report::DIGITS, 1);
+        draw::digits(&mut bytes, run)
     } else {
         draw::book(&mut bytes, run)
     };
@@ -47,6 +50,16 @@ fn one(run: &mut [u64; 256], number: u64) {
 
 fn tell(run: &[u64; 256]) {
     say_numbers(run, b"books read, by number", report::READ);
+    say(
+        run,
+        b"of these with a byte in two pictures",
+        report::SHARING,
+    );
+    say(
+        run,
+        b"of these of decimal and hexadecimal digits",
+        report::DIGITS,
+    );
     say(
         run,
         b"of these for the first of several symbols",

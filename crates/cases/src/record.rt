@@ -23,7 +23,7 @@ pub fn is_record(
         && got.rules == judged.rules
         && is_symbols(bytes, rules, judged.rules, &symbols)
         && is_lengths(rules, judged.rules, &lengths)
-        && is_members(bytes, pictures, judged.pictures, &picture)
+        && is_sets(bytes, pictures, judged.pictures, &picture)
 }
 
 // Each symbol as 256 times its kind plus its second byte, and 0 in the places that no rule uses.
@@ -54,19 +54,25 @@ fn is_lengths(rules: &[usize; 256], count: usize, lengths: &[u8; 64]) -> bool {
     true
 }
 
-// Whether each byte is a member of just the pictures that list it.
-fn is_members(
-    bytes: &[u8],
-    pictures: &[usize; 64],
-    count: usize,
-    picture: &book::Pictures,
-) -> bool {
-    for i in 0..4096usize {
-        let p = i % 16;
-        let meant = p < count && is_member(bytes, i / 16, pictures, p);
-        if book::fits(picture, (i / 16) as u8, 256 + p as u16) != meant {
+// Each byte with the set of just the pictures that list it.
+fn is_sets(bytes: &[u8], pictures: &[usize; 64], count: usize, picture: &[u16; 256]) -> bool {
+    for c in 0..256usize {
+        if medium(picture[c]) != set_of(bytes, pictures, count, c) {
             return false;
         }
     }
     true
+}
+
+// 1 for picture 0, 2 for picture 1, 4 for picture 2, and so on: the sum of those that list the byte.
+fn set_of(bytes: &[u8], pictures: &[usize; 64], count: usize, byte: usize) -> usize {
+    let mut set = 0;
+    let mut worth = 1;
+    for p in 0..count {
+        if is_member(bytes, byte, pictures, p) {
+            set = plus(set, worth);
+        }
+        worth = plus(worth, worth);
+    }
+    set
 }

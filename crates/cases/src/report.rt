@@ -37,6 +37,11 @@ const LOW: usize = 230;
 // Counts at the limit, by number again.
 pub const COUNTS: usize = 231;
 
+// Sound books with a byte in two pictures, and the books of decimal and hexadecimal digits.
+pub const SHARING: usize = 250;
+
+pub const DIGITS: usize = 251;
+
 // Books refused for a rule with several symbols at fault.
 pub const SEVERAL: usize = 255;
 

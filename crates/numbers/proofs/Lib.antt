@@ -4,3 +4,5 @@ pub mod Builds
 pub mod Walks
 pub mod Tallies
 pub mod Cases
+pub mod Largest
+pub mod Never

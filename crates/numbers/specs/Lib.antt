@@ -1,3 +1,5 @@
 -- The paper's numbers to check by: the books, the texts and the one table of cases. Assumes nothing.
 pub mod Inputs
 pub mod Cases
+pub mod Largest
+pub mod Never

@@ -23,6 +23,18 @@ shared-slice-read-wide c = search needs
 wide-requires : tie.Need-wide-requires Inv-loop μ-loop
 wide-requires c κs = search needs
 
+mul-with : tie.Need-mul-with Inv-loop μ-loop
+mul-with c = search needs
+
+element-copy-out-with : tie.Need-element-copy-out-with Inv-loop μ-loop
+element-copy-out-with c = search needs
+
+with-requires : tie.Need-with-requires Inv-loop μ-loop
+with-requires c κs = search needs
+
+mul-map : tie.Need-mul-map Inv-loop μ-loop
+mul-map c = search needs
+
 element-write-map : tie.Need-element-write-map Inv-loop μ-loop
 element-write-map c = search needs
 
@@ -34,10 +46,10 @@ loop-less c = search needs
 
 loop-again : tie.Need-loop-again Inv-loop μ-loop
 loop-again c =
-    let l = c .before .before .before in
+    let l = c .before .before .before .before .before in
     let a = l .before .before .args in
-    let e : c .wide .result ≡ getD (a .body .now) (l .loop .i) 0 = c .wide .ensures .0 in
-    (search needs, rw e (l .loop .inv .1 ∙ mark-more (l .loop .map) (a .body .now) (l .loop .i) (a .p) (search needs)))
+    let e : c .before .before .wide .result ≡ getD (a .body .now) (l .loop .i) 0 = c .before .before .wide .ensures .0 in
+    (search needs, rw (c .with .ensures, e) (l .loop .inv .1 ∙ mark-more (l .loop .map) (a .body .now) (l .loop .i) (a .p) (search needs)))
 
 returns : tie.Need-returns Inv-loop μ-loop
 returns c =
@@ -54,6 +66,10 @@ mark-all-spec =
     loop-holds
     shared-slice-read-wide
     wide-requires
+    mul-with
+    element-copy-out-with
+    with-requires
+    mul-map
     element-write-map
     add-i
     loop-less

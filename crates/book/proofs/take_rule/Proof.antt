@@ -33,7 +33,7 @@ returns c = λ a q.
     let g = k .before .before .args in
     let h = rule-sound _ _ (g .at) (g .body .now) (k .judge-rule .ensures) (c .before .enum-told .given .1) in
     goes-by _ (rule-answered a q (g .at) (g .end) (g .body .now) Accepted (k .judge-rule .ensures) (c .before .enum-told .given .1))
-    (refl, refl, holds-rule a q (g .body .now) (rw (rules-held a (q .is)) at (h .0)) (h .1) (c .with-rule .ensures))
+    (refl, refl, holds-rule a q (g .body .now) (rw (rules-held a q) at (h .0)) (h .1) (c .with-rule .ensures))
 
 returns-2 : tie.Need-returns-2
 unfolding outcome

@@ -7,10 +7,10 @@ use Rattle.book_cases.proofs.put_pictures.Statement.{statement}
 use Rattle.book_cases.proofs.put_pictures.Tie as tie
 
 abbrev Inv-loop : tie.InvT-loop
-Inv-loop a₀ j₀ a j = (length a ≡ length a₀) × (j ≤ 16)
+Inv-loop a₀ p₀ a p = (length a ≡ length a₀) × (p ≤ 16)
 
 abbrev μ-loop : tie.MeasureT-loop
-μ-loop a₀ j₀ a j = 16 - j
+μ-loop a₀ p₀ a p = 16 - p
 
 put-requires : tie.Need-put-requires Inv-loop μ-loop
 put-requires c κs = search needs
@@ -21,17 +21,23 @@ put-requires-2 c κs = search needs
 loop-holds : tie.Need-loop-holds Inv-loop μ-loop
 loop-holds c = search needs
 
-small-requires : tie.Need-small-requires Inv-loop μ-loop
-small-requires c κs = search needs
+mul-put : tie.Need-mul-put Inv-loop μ-loop
+mul-put c = search needs
 
 add-put : tie.Need-add-put Inv-loop μ-loop
 add-put c = search needs
 
+mul-put-2 : tie.Need-mul-put-2 Inv-loop μ-loop
+mul-put-2 c = search needs
+
+add-put-2 : tie.Need-add-put-2 Inv-loop μ-loop
+add-put-2 c = search needs
+
 put-requires-3 : tie.Need-put-requires-3 Inv-loop μ-loop
 put-requires-3 c κs = search needs
 
-add-j : tie.Need-add-j Inv-loop μ-loop
-add-j c = search needs
+add-p : tie.Need-add-p Inv-loop μ-loop
+add-p c = search needs
 
 loop-less : tie.Need-loop-less Inv-loop μ-loop
 loop-less c = search needs
@@ -54,10 +60,12 @@ put-pictures-spec =
     put-requires
     put-requires-2
     loop-holds
-    small-requires
+    mul-put
     add-put
+    mul-put-2
+    add-put-2
     put-requires-3
-    add-j
+    add-p
     loop-less
     loop-again
     same-length

@@ -5,16 +5,16 @@ use Rattle.cases.proofs.draw.book.Statement.{statement}
 use Rattle.cases.proofs.draw.book.Tie as tie
 
 abbrev Inv-loop : tie.InvT-loop
-Inv-loop bytes₀ run₀ pictures owner drawn₀ own₀ next₀ counter₀ end bytes run drawn own next counter = 0 ≤ counter
+Inv-loop bytes₀ run₀ pictures chosen drawn₀ own₀ next₀ counter₀ end bytes run drawn own next counter = 0 ≤ counter
 
 abbrev μ-loop : tie.MeasureT-loop
-μ-loop bytes₀ run₀ pictures owner drawn₀ own₀ next₀ counter₀ end bytes run drawn own next counter = end - counter
+μ-loop bytes₀ run₀ pictures chosen drawn₀ own₀ next₀ counter₀ end bytes run drawn own next counter = end - counter
 
 draw-requires : tie.Need-draw-requires Inv-loop μ-loop
 draw-requires c κs = search needs
 
-owners-requires : tie.Need-owners-requires Inv-loop μ-loop
-owners-requires c κs = search needs
+choices-requires : tie.Need-choices-requires Inv-loop μ-loop
+choices-requires c κs = search needs
 
 draw-requires-2 : tie.Need-draw-requires-2 Inv-loop μ-loop
 draw-requires-2 c κs = search needs
@@ -71,7 +71,7 @@ book-spec =
     Inv-loop
     μ-loop
     draw-requires
-    owners-requires
+    choices-requires
     draw-requires-2
     plus-requires
     draw-requires-3

@@ -5,16 +5,22 @@ use Rattle.cases.proofs.draw.many_rules.Statement.{statement}
 use Rattle.cases.proofs.draw.many_rules.Tie as tie
 
 abbrev Inv-loop : tie.InvT-loop
-Inv-loop bytes₀ run₀ count drawn₀ counter₀ bytes run drawn counter = 0 ≤ counter
+Inv-loop bytes₀ run₀ count most drawn₀ counter₀ bytes run drawn counter = 0 ≤ counter
 
 abbrev μ-loop : tie.MeasureT-loop
-μ-loop bytes₀ run₀ count drawn₀ counter₀ bytes run drawn counter = count - counter
+μ-loop bytes₀ run₀ count most drawn₀ counter₀ bytes run drawn counter = count - counter
 
 loop-holds : tie.Need-loop-holds Inv-loop μ-loop
 loop-holds c = search needs
 
 draw-requires : tie.Need-draw-requires Inv-loop μ-loop
 draw-requires c κs = search needs
+
+draw-requires-2 : tie.Need-draw-requires-2 Inv-loop μ-loop
+draw-requires-2 c κs = search needs
+
+plus-requires : tie.Need-plus-requires Inv-loop μ-loop
+plus-requires c κs = search needs
 
 rule-requires : tie.Need-rule-requires Inv-loop μ-loop
 rule-requires c κs = search needs
@@ -39,6 +45,8 @@ many-rules-spec =
     μ-loop
     loop-holds
     draw-requires
+    draw-requires-2
+    plus-requires
     rule-requires
     add-counter
     loop-less

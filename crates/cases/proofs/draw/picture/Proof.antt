@@ -5,22 +5,28 @@ use Rattle.cases.proofs.draw.picture.Statement.{statement}
 use Rattle.cases.proofs.draw.picture.Tie as tie
 
 abbrev Inv-loop : tie.InvT-loop
-Inv-loop bytes₀ drawn owner number size₀ l₀ t7 bytes size l = 0 ≤ l
+Inv-loop bytes₀ drawn chosen number size₀ l₀ t7 bytes size l = 0 ≤ l
 
 abbrev μ-loop : tie.MeasureT-loop
-μ-loop bytes₀ drawn owner number size₀ l₀ t7 bytes size l = 5 - l
+μ-loop bytes₀ drawn chosen number size₀ l₀ t7 bytes size l = 5 - l
 
 loop-holds : tie.Need-loop-holds Inv-loop μ-loop
 loop-holds c = search needs
 
-at8-requires : tie.Need-at8-requires Inv-loop μ-loop
-at8-requires c κs = search needs
+mul-plus : tie.Need-mul-plus Inv-loop μ-loop
+mul-plus c = search needs
 
 plus-requires : tie.Need-plus-requires Inv-loop μ-loop
 plus-requires c κs = search needs
 
+at8-requires : tie.Need-at8-requires Inv-loop μ-loop
+at8-requires c κs = search needs
+
 plus-requires-2 : tie.Need-plus-requires-2 Inv-loop μ-loop
 plus-requires-2 c κs = search needs
+
+plus-requires-3 : tie.Need-plus-requires-3 Inv-loop μ-loop
+plus-requires-3 c κs = search needs
 
 slice-aggregate-at8 : tie.Need-slice-aggregate-at8 Inv-loop μ-loop
 slice-aggregate-at8 c = search needs
@@ -31,8 +37,8 @@ at8-requires-2 c κs = search needs
 put8-requires : tie.Need-put8-requires Inv-loop μ-loop
 put8-requires c κs = search needs
 
-plus-requires-3 : tie.Need-plus-requires-3 Inv-loop μ-loop
-plus-requires-3 c κs = search needs
+plus-requires-4 : tie.Need-plus-requires-4 Inv-loop μ-loop
+plus-requires-4 c κs = search needs
 
 add-l : tie.Need-add-l Inv-loop μ-loop
 add-l c = search needs
@@ -49,14 +55,14 @@ returns c = search needs
 header-requires : tie.Need-header-requires Inv-loop μ-loop
 header-requires c κs = search needs
 
-plus-requires-4 : tie.Need-plus-requires-4 Inv-loop μ-loop
-plus-requires-4 c κs = search needs
-
 plus-requires-5 : tie.Need-plus-requires-5 Inv-loop μ-loop
 plus-requires-5 c κs = search needs
 
 plus-requires-6 : tie.Need-plus-requires-6 Inv-loop μ-loop
 plus-requires-6 c κs = search needs
+
+plus-requires-7 : tie.Need-plus-requires-7 Inv-loop μ-loop
+plus-requires-7 c κs = search needs
 
 returns-2 : tie.Need-returns-2 Inv-loop μ-loop
 returns-2 c = search needs
@@ -68,19 +74,21 @@ picture-spec =
     Inv-loop
     μ-loop
     loop-holds
-    at8-requires
+    mul-plus
     plus-requires
+    at8-requires
     plus-requires-2
+    plus-requires-3
     slice-aggregate-at8
     at8-requires-2
     put8-requires
-    plus-requires-3
+    plus-requires-4
     add-l
     loop-less
     loop-again
     returns
     header-requires
-    plus-requires-4
     plus-requires-5
     plus-requires-6
+    plus-requires-7
     returns-2)

@@ -1,8 +1,8 @@
--- `cases::judge::shares` is safe and ends. `i` comes nearer to its end. Assumes nothing.
+-- `cases::judge::shared` is safe and ends. `i` comes nearer to its end. Assumes nothing.
 use Prim.Native.Nat.{_-_, _≤_}
 use borrow.Author.Needs.{needs}
-use Rattle.cases.proofs.judge.shares.Statement.{statement}
-use Rattle.cases.proofs.judge.shares.Tie as tie
+use Rattle.cases.proofs.judge.shared.Statement.{statement}
+use Rattle.cases.proofs.judge.shared.Tie as tie
 
 abbrev Inv-loop : tie.InvT-loop
 Inv-loop bytes body size pictures p i₀ i = 0 ≤ i
@@ -37,8 +37,8 @@ loop-again c = search needs
 returns-2 : tie.Need-returns-2 Inv-loop μ-loop
 returns-2 c = search needs
 
-pub shares-spec : {M : Type 1} → statement M
-shares-spec =
+pub shared-spec : {M : Type 1} → statement M
+shared-spec =
     tie.close
     (tie.spec
     Inv-loop

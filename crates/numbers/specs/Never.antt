@@ -1,0 +1,17 @@
+-- The number that is given no more. Assumes nothing.
+use mathlib.Core.Logic.{_≢_}
+use Rattle.book.specs.declared.Answer.{Answer}
+use Rattle.book.specs.Answers.{numberOf}
+use Rattle.build.specs.declared.Built.{Built}
+use Rattle.build.specs.Promise.{numberOf as numberBuilt}
+use Rattle.walk.specs.declared.Walked.{Walked}
+use Rattle.walk.specs.Walk.{numberOf as numberWalked}
+use Rattle.tally.specs.declared.Tallied.{Tallied}
+use Rattle.tally.specs.Tally.{numberOf as numberTallied}
+
+-- no answer has the number 4
+pub record NeverFour : Type 0 where
+  pub read : (x : Answer) → numberOf x ≢ 4
+  pub built : (x : Built) → numberBuilt x ≢ 4
+  pub walked : (x : Walked) → numberWalked x ≢ 4
+  pub tallied : (x : Tallied) → numberTallied x ≢ 4

@@ -42,31 +42,31 @@ apart-unshared ps = (into, onto)
         (λ l. by-lt q p (λ k. absurd (earlier f q p c k u t)) (λ k. omega arith))
 
 -- what the number of a byte says: the picture q has it, or none has
-data Numbered (ps : List (List ℕ)) (c p : ℕ) : ℕ → Type 0 where
-  one : (q : ℕ) → member c (getD ps q []) ≡ true → Numbered ps c p (p + q)
-  none : ((q : ℕ) → member c (getD ps q []) ≡ false) → Numbered ps c p mostPictures
+data OneOrNone (ps : List (List ℕ)) (c p : ℕ) : ℕ → Type 0 where
+  one : (q : ℕ) → member c (getD ps q []) ≡ true → OneOrNone ps c p (p + q)
+  none : ((q : ℕ) → member c (getD ps q []) ≡ false) → OneOrNone ps c p mostPictures
 
-numbered : (p : ℕ) (ps : List (List ℕ)) (c : ℕ) → Numbered ps c p (pictureFrom p ps c)
+one-or-none : (p : ℕ) (ps : List (List ℕ)) (c : ℕ) → OneOrNone ps c p (pictureFrom p ps c)
 unfolding pictureFrom member
-numbered p [] c = none (λ q. refl)
-numbered p (m ∷ ps) c =
+one-or-none p [] c = none (λ q. refl)
+one-or-none p (m ∷ ps) c =
     by-test (member c m)
-    (λ t. rw t (subst (Numbered (m ∷ ps) c p) (add-zero p) (one zero t)))
-    (λ t. rw t (later t (numbered (suc p) ps c)))
+    (λ t. rw t (subst (OneOrNone (m ∷ ps) c p) (add-zero p) (one zero t)))
+    (λ t. rw t (later t (one-or-none (suc p) ps c)))
   where
     neither : member c m ≡ false → ((q : ℕ) → member c (getD ps q []) ≡ false) → (q : ℕ) → member c (getD (m ∷ ps) q []) ≡ false
     neither t f zero = t
     neither t f (suc q) = f q
 
-    later : {n : ℕ} → member c m ≡ false → Numbered ps c (suc p) n → Numbered (m ∷ ps) c p n
-    later t (one q u) = let e : p + suc q ≡ suc p + q = omega arith in subst (Numbered (m ∷ ps) c p) e (one (suc q) u)
+    later : {n : ℕ} → member c m ≡ false → OneOrNone ps c (suc p) n → OneOrNone (m ∷ ps) c p n
+    later t (one q u) = let e : p + suc q ≡ suc p + q = omega arith in subst (OneOrNone (m ∷ ps) c p) e (one (suc q) u)
     later t (none f) = none (neither t f)
 
 module _ (a : Content) (S : Sound a) (apart : Apart (a .pictures)) where
   abbrev ps : List (List ℕ)
   ps = a .pictures
 
-  by-number : (p c : ℕ) {n : ℕ} → Numbered ps c 0 n → (ltb p mostPictures && eqb n p) ≡ member c (getD ps p [])
+  by-number : (p c : ℕ) {n : ℕ} → OneOrNone ps c 0 n → (ltb p mostPictures && eqb n p) ≡ member c (getD ps p [])
   by-number p c (one q t) =
       by-eq (0 + q) p
       (λ e.
@@ -84,7 +84,7 @@ module _ (a : Content) (S : Sound a) (apart : Apart (a .pictures)) where
   unfolding memberBefore mapBefore
   member-before p c =
       by-lt c 256
-      (λ h. rw (lt-ltb c 256 h, getD-table 256 (pictureFrom 0 ps) c 0 h) (by-number p c (numbered 0 ps c)))
+      (λ h. rw (lt-ltb c 256 h, getD-table 256 (pictureFrom 0 ps) c 0 h) (by-number p c (one-or-none 0 ps c)))
       (λ h. rw (le-ltb c 256 h) (by-test (member c (getD ps p [])) (λ t. absurd (omega (arith, S .bytes p c t))) sym))
 
   members : (p c : ℕ) → memberBefore (mapBefore ps) p c ≡ memberIn (mapOf ps) p c

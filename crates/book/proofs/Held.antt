@@ -5,7 +5,7 @@ use native.Mathlib.Omega.{arith}
 use lib.ListN.{length, getD, List·getD-eq-default}
 use Rattle.book.specs.declared.Book.{Book}
 use Rattle.book.specs.Limits.{mostRules, mostSymbols}
-use Rattle.book.specs.Content.{Content, sizes, mapOf, recordOf}
+use Rattle.book.specs.Content.{Content, sizes, recordOf}
 use Rattle.book.specs.Sound.{Sound}
 use Rattle.book.proofs.Cases.{by-lt}
 use Rattle.book.proofs.Tables.{length-table, getD-sizes}
@@ -18,10 +18,6 @@ module _ {b : Book} (a : Content) (e : b ≡ recordOf a) where
   pub pictures-held : b .pictures ≡ length (a .pictures)
   unfolding recordOf
   pictures-held = ap (λ x. x .pictures) e
-
-  pub map-held : b .picture ≡ mapOf (a .pictures)
-  unfolding recordOf
-  map-held = ap (λ x. x .picture) e
 
   pub lengths-held : b .lengths ≡ sizes mostRules (a .rules)
   unfolding recordOf

@@ -8,12 +8,12 @@ use borrow.Author.Tests.{eqb-true, eqb-false, eq-eqb, ne-eqb, lt-ltb, le-ltb}
 use lib.ListN.{length, getD, set, length-set, List·getD-eq-default}
 use lib.Seq.{getD-set-same, getD-set-other}
 use lib.Dec.{eqb}
-use Rattle.sets.specs.Sets.{has, setWhere, adding}
+use Rattle.sets.specs.Sets.{has, adding}
 use Rattle.sets.proofs.Laws.{has-in, has-setWhere, setWhere-ext}
 use Rattle.book.specs.Limits.{mostPictures}
 use Rattle.book.specs.Content.{member, picturesWith, mapOf}
 use Rattle.book.specs.Leaves.{mark}
-use Rattle.book.proofs.Cases.{by-test, by-lt, by-eq}
+use Rattle.book.proofs.Cases.{by-test, by-lt}
 use Rattle.book.proofs.Tables.{length-table, getD-table, is-table, at-snoc}
 
 pub getD-map : (ps : List (List ℕ)) (c : ℕ) → c < 256 → getD (mapOf ps) c 0 ≡ picturesWith ps c

@@ -2,7 +2,6 @@
 use Prim.Native.Nat.{ℕ, _*_, _≤_, _<_}
 use mathlib.Core.Path.{_≡_, sym, subst, _∙_}
 use mathlib.Core.List.{List}
-use native.Mathlib.Omega.{arith}
 use lib.ListN.{length}
 use Rattle.book.specs.declared.Book.{Book}
 use Rattle.book.specs.declared.Step.{Step}

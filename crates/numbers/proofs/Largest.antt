@@ -1,6 +1,5 @@
 -- The largest book is accepted, by computation. Assumes nothing.
 use mathlib.Core.Path.{_≡_, refl, ap}
-use lib.ListN.{length}
 use Rattle.book.specs.declared.Answer.the-variants.{Accepted}
 use Rattle.book.specs.Answers.{numberOf, valueOf}
 use Rattle.book.specs.Content.{table}

@@ -11,7 +11,7 @@ use Rattle.book.specs.declared.Refusal.the-variants.{Cut, OtherTag, Pict
 use Rattle.book.specs.Answers.{number, value, numberOf, valueOf}
 use Rattle.book.specs.Content.{Content}
 use Rattle.book.specs.Format.{headAt, rises, ascending, judgePicture, judgeSymbol, firstOf, judgeSymbols, symbolsOf, judgeRule, outcome, pictureField, ruleField, fieldOf, fieldAt, Meaning, means, refused, follow, ended, fields, meaningOf, handed, readOf}
-use Rattle.book.specs.Numbers.{Gives, IsAccepted, IsRefused, Numbered, times, cases, Answered}
+use Rattle.book.specs.Numbers.{Gives, IsAccepted, IsRefused, Numbered, repeated, cases, Answered}
 
 -- a refusal's number is 1 to 9, 17 or 18, and never 4
 pub number-some : (r : Refusal) → (1 ≤ number r) × (9 < number r → (17 ≤ number r) × (number r ≤ 18)) × (number r ≢ 4)
@@ -93,5 +93,5 @@ gives s r = (into, λ e. (is-refused s r e .named, is-refused s r e .placed))
         e ∙ ap refused (sym (is-refusal x) ∙ ap₂ refusal-of (sym (f .named) ∙ n) (sym (f .placed) ∙ v) ∙ is-refusal r)
 
 pub answered : Answered cases
-unfolding times readOf handed meaningOf fields follow ended fieldAt fieldOf headAt pictureField judgePicture ascending rises ruleField outcome judgeRule judgeSymbols judgeSymbol firstOf symbolsOf
+unfolding repeated readOf handed meaningOf fields follow ended fieldAt fieldOf headAt pictureField judgePicture ascending rises ruleField outcome judgeRule judgeSymbols judgeSymbol firstOf symbolsOf
 answered = ((refl, refl), ((refl, refl), ((refl, refl), ((refl, refl), ((refl, refl), ((refl, refl), ((refl, refl), ((refl, refl), ((refl, refl), ((refl, refl), ((refl, refl), ((refl, refl), tt))))))))))))

@@ -44,9 +44,9 @@ pub record Case : Type 0 where
   pub value : ℕ
 
 -- n times l, one after the other
-unfoldable pub times : ℕ → List ℕ → List ℕ
-times zero l = []
-times (suc n) l = l ++ times n l
+unfoldable pub repeated : ℕ → List ℕ → List ℕ
+repeated zero l = []
+repeated (suc n) l = l ++ repeated n l
 
 -- the empty book, which is case 1 of the paper; the rule `a`; two pictures that share a byte and a rule; and a small book for each of the other refusals.
 -- Those of 6 and 7 have kind 2 too; those of 17 and 18 a sound symbol and two at fault
@@ -58,10 +58,10 @@ cases =
     ∷ record { bytes = 0x52 ∷ 0 ∷ 2 ∷ 0 ∷ 97 ∷ 0x52 ∷ []; number = 1; value = 5 }
     ∷ record { bytes = 0x52 ∷ 0 ∷ 2 ∷ 0 ∷ 97 ∷ 0x51 ∷ 0 ∷ 0 ∷ []; number = 2; value = 5 }
     ∷ record { bytes = 0x52 ∷ 0 ∷ 2 ∷ 0 ∷ 97 ∷ 0x50 ∷ 0 ∷ 0 ∷ []; number = 3; value = 5 }
-    ∷ record { bytes = times 17 (0x50 ∷ 0 ∷ 1 ∷ 97 ∷ []); number = 5; value = 64 }
+    ∷ record { bytes = repeated 17 (0x50 ∷ 0 ∷ 1 ∷ 97 ∷ []); number = 5; value = 64 }
     ∷ record { bytes = 0x50 ∷ 0 ∷ 1 ∷ 97 ∷ 0x52 ∷ 0 ∷ 1 ∷ 2 ∷ []; number = 6; value = 4 }
     ∷ record { bytes = 0x50 ∷ 0 ∷ 1 ∷ 97 ∷ 0x52 ∷ 0 ∷ 130 ∷ replicate 130 2; number = 7; value = 4 }
-    ∷ record { bytes = times 65 (0x52 ∷ 0 ∷ 2 ∷ 0 ∷ 97 ∷ []); number = 8; value = 320 }
+    ∷ record { bytes = repeated 65 (0x52 ∷ 0 ∷ 2 ∷ 0 ∷ 97 ∷ []); number = 8; value = 320 }
     ∷ record { bytes = 0x50 ∷ 0 ∷ 1 ∷ 97 ∷ 0x52 ∷ 0 ∷ 6 ∷ 1 ∷ 0 ∷ 2 ∷ 0 ∷ 1 ∷ 1 ∷ []; number = 17; value = 9 }
     ∷ record { bytes = 0x50 ∷ 0 ∷ 1 ∷ 97 ∷ 0x52 ∷ 0 ∷ 6 ∷ 1 ∷ 0 ∷ 1 ∷ 1 ∷ 2 ∷ 0 ∷ []; number = 18; value = 9 }
     ∷ []

@@ -52,7 +52,7 @@ fn tell(run: &[u64; 256]) {
     say_numbers(run, b"books read, by number", report::READ);
     say(
         run,
-        b"of these with a byte in two pictures",
+        b"sound books with a byte in two pictures",
         report::SHARING,
     );
     say(
@@ -62,7 +62,7 @@ fn tell(run: &[u64; 256]) {
     );
     say(
         run,
-        b"of these for the first of several symbols",
+        b"books refused for the first of several symbols",
         report::SEVERAL,
     );
     say_numbers(run, b"books built, by number", report::BUILT);

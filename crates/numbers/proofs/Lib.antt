@@ -1,4 +1,5 @@
--- The paper's numbers to check by, proved: what the books' bytes mean, laws of builds and of walks that are written out, and the one theorem. Assumes nothing.
+-- The paper's numbers to check by, proved: what the books' bytes mean, laws of builds and of walks that are written out, and the one theorem; the
+-- largest book; the number given no more. Assumes nothing.
 pub mod Books
 pub mod Builds
 pub mod Walks
@@ -6,3 +7,4 @@ pub mod Tallies
 pub mod Cases
 pub mod Largest
 pub mod Never
+pub mod Digits

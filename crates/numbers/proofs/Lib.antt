@@ -1,5 +1,5 @@
--- The paper's numbers to check by, proved: what the books' bytes mean, laws of builds and of walks that are written out, and the one theorem; the
--- largest book; the number given no more. Assumes nothing.
+-- The paper's numbers to check by, proved: what the books' bytes mean, laws of builds and of walks that are written out, and the one theorem; a book
+-- of digits; the largest book; the number given no more. Assumes nothing.
 pub mod Books
 pub mod Builds
 pub mod Walks

@@ -21,3 +21,5 @@ pub mod Apart
 pub mod Accepted
 pub mod Numbers
 pub mod Which
+pub mod Written
+pub mod Largest

@@ -8,4 +8,5 @@ pub mod Meant
 pub mod Apart
 pub mod Numbers
 pub mod Which
+pub mod Largest
 pub mod Leaves

@@ -1,10 +1,9 @@
 -- The paper's numbers to check by, proved: what the books' bytes mean, laws of builds and of walks that are written out, and the one theorem; a book
--- of digits; the largest book; the number given no more. Assumes nothing.
+-- of digits; the number given no more. Assumes nothing.
 pub mod Books
 pub mod Builds
 pub mod Walks
 pub mod Tallies
 pub mod Cases
-pub mod Largest
 pub mod Never
 pub mod Digits

@@ -1,6 +1,5 @@
--- The paper's numbers to check by: the books, the texts and the one table of cases; a book of digits; the largest book; the number given no more. Assumes nothing.
+-- The paper's numbers to check by: the books, the texts and the one table of cases; a book of digits; the number given no more. Assumes nothing.
 pub mod Inputs
 pub mod Cases
-pub mod Largest
 pub mod Never
 pub mod Digits

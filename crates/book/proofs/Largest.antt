@@ -1,0 +1,98 @@
+-- The largest book is accepted: its pictures one by one, then its rules. Assumes nothing.
+use Prim.Native.Nat.{ℕ, zero, suc, _+_, _*_, _<_}
+use mathlib.Core.Path.{_≡_, refl, sym, ap, subst, _∙_}
+use mathlib.Core.Bool.{true}
+use mathlib.Core.List.{List, [], _∷_, _++_, append-nil}
+use native.Mathlib.Omega.{arith}
+use native.Mathlib.Nat.{zero-mul, suc-mul}
+use borrow.Author.Tests.{ne-eqb}
+use lib.ListN.{length, length-append}
+use Rattle.book.specs.declared.Answer.the-variants.{Accepted}
+use Rattle.book.specs.Limits.{mostPictures, mostRules, mostSymbols}
+use Rattle.book.specs.Content.{Content, nothing, withPicture, withRule, table}
+use Rattle.book.specs.Format.{rises, ascending, judgeSymbol, firstOf, judgeSymbols, symbolsOf, judgeRule, means, ended, meaningOf}
+use Rattle.book.specs.Numbers.{repeated}
+use Rattle.book.specs.Which.{Before, start, next}
+use Rattle.book.specs.Largest.{allBytes, longRule, largest, LargestAccepted}
+use Rattle.book.proofs.Tables.{length-table, length-snoc}
+use Rattle.book.proofs.Judged.{rule-judged}
+use Rattle.book.proofs.Before.{rest-before, rest-ends}
+use Rattle.book.proofs.Numbers.{numbered}
+use Rattle.book.proofs.Written.{ends-within, picture-read, rule-read, many}
+
+length-repeated : (k : ℕ) (l : List ℕ) → length (repeated k l) ≡ k * length l
+unfolding repeated
+length-repeated zero l = sym (zero-mul (length l))
+length-repeated (suc k) l = length-append l (repeated k l) ∙ omega (arith, length-repeated k l, suc-mul k (length l))
+
+-- ---- a picture and a rule
+
+all-ascend : ascending (table 256 (λ c. c)) ≡ true
+unfolding table ascending rises
+all-ascend = refl
+
+symbols-sound : (k i : ℕ) → judgeSymbols mostPictures i (repeated k (1 ∷ 15 ∷ [])) ≡ Accepted
+unfolding repeated judgeSymbols judgeSymbol firstOf
+symbols-sound zero i = refl
+symbols-sound (suc k) i = symbols-sound k (i + 2)
+
+rule-sound : (n at : ℕ) → n < mostRules → judgeRule n mostPictures at (repeated mostSymbols (1 ∷ 15 ∷ [])) ≡ Accepted
+rule-sound n at h =
+    let body = repeated mostSymbols (1 ∷ 15 ∷ []) in
+    let l : length body ≡ mostSymbols * 2 = length-repeated mostSymbols (1 ∷ 15 ∷ []) in
+    sym (rule-judged n mostPictures at body h (omega arith) (λ z. omega arith) (λ z. omega arith)) ∙ symbols-sound mostSymbols (at + 3)
+
+-- ---- all of them
+
+-- before a place stand so many pictures and rules
+record Stands (s : List ℕ) (at p k : ℕ) : Type 0 where
+  content : Content
+  before : Before s at content
+  pictures : length (content .pictures) ≡ p
+  rules : length (content .rules) ≡ k
+
+picture-more : {s : List ℕ} (x y : List ℕ) (i : ℕ) → s ≡ x ++ (allBytes ++ y) → i < mostPictures → Stands s (length x) i 0 → Stands s (length x + length allBytes) (suc i) 0
+picture-more {s} x y i q h r =
+    let a = r .content in
+    let m = table 256 (λ c. c) in
+    let l : length m ≡ 256 = length-table 256 (λ c. c) in
+    let w = ends-within x y 0x50 1 0 m q l in
+    let e : length x + 3 + length m ≡ length x + length allBytes = omega arith in
+    record {
+      content = withPicture a m;
+      before = subst (λ (n : ℕ). Before s n (withPicture a m)) e (next (r .before) (omega arith) (picture-read x y 0x50 1 0 m q l a refl (rw (r .pictures) h) all-ascend));
+      pictures = length-snoc (a .pictures) m ∙ omega (arith, r .pictures);
+      rules = r .rules;
+    }
+
+rule-more : {s : List ℕ} (x y : List ℕ) (i : ℕ) → s ≡ x ++ (longRule ++ y) → i < mostRules → Stands s (length x) mostPictures i → Stands s (length x + length longRule) mostPictures (suc i)
+rule-more {s} x y i q h r =
+    let a = r .content in
+    let m = repeated mostSymbols (1 ∷ 15 ∷ []) in
+    let l : length m ≡ 128 = length-repeated mostSymbols (1 ∷ 15 ∷ []) in
+    let w = ends-within x y 0x52 0 128 m q l in
+    let e : length x + 3 + length m ≡ length x + length longRule = omega arith in
+    let b = withRule a (symbolsOf m) in
+    record {
+      content = b;
+      before = subst (λ (n : ℕ). Before s n b) e (next (r .before) (omega arith) (rule-read x y 0x52 0 128 m q l a refl (rw (r .pictures, r .rules) (rule-sound i (length x) h))));
+      pictures = r .pictures;
+      rules = length-snoc (a .rules) (symbolsOf m) ∙ omega (arith, r .rules);
+    }
+
+all-stand : Stands largest (length largest) mostPictures mostRules
+all-stand =
+    let ps = repeated mostPictures allBytes in
+    let rs = repeated mostRules longRule in
+    let first = many allBytes mostPictures (λ at i. Stands largest at i 0) picture-more mostPictures [] rs 0 refl (omega arith) (record { content = nothing; before = start; pictures = refl; rules = refl }) in
+    many longRule mostRules (λ at i. Stands largest at mostPictures i) rule-more mostRules ps [] 0 (ap (λ (z : List ℕ). ps ++ z) (sym (append-nil rs))) (omega arith) first
+
+accepted : (a : Content) → Before largest (length largest) a → length (a .rules) ≡ mostRules → meaningOf largest ≡ means a
+unfolding ended
+accepted a p k = rest-ends largest (length largest) a (rest-before p) (omega arith) ∙ rw (ne-eqb (length (a .rules)) 0 (λ z. omega arith))
+
+pub largest-accepted : LargestAccepted
+largest-accepted =
+    let r = all-stand in
+    let n = numbered largest .accepted (r .content) (accepted (r .content) (r .before) (r .rules)) in
+    (length-append (repeated mostPictures allBytes) (repeated mostRules longRule) ∙ omega (arith, length-repeated mostPictures allBytes, length-repeated mostRules longRule, length-table 256 (λ c. c), length-repeated mostSymbols (1 ∷ 15 ∷ [])), (n .zero, n .none))

@@ -1,0 +1,80 @@
+-- A field that is written out is read so, and so are many of one kind. Assumes nothing.
+use Prim.Native.Nat.{ℕ, zero, suc, _+_, _*_, _-_, _≤_, _<_}
+use mathlib.Core.Path.{_≡_, refl, sym, ap, subst, _∙_}
+use mathlib.Core.Bool.{true}
+use mathlib.Core.List.{List, [], _∷_, _++_, append-assoc, append-nil}
+use native.Mathlib.Nat.{add-zero}
+use native.Mathlib.Omega.{arith}
+use lib.ListN.{length, getD, drop, length-append}
+use lib.Seq.{getD-append-seam, getD-append-add, take-append-seam, drop-append-seam}
+use Rattle.book.specs.declared.Head.the-variants.{Picture, Rule}
+use Rattle.book.specs.declared.Answer.the-variants.{Accepted}
+use Rattle.book.specs.Limits.{mostPictures}
+use Rattle.book.specs.Content.{Content, withPicture, withRule}
+use Rattle.book.specs.Format.{sizeAt, ascending, judgeRule, symbolsOf, goes, outcome, ruleField, part, fieldOf, fieldAt}
+use Rattle.book.specs.Numbers.{repeated}
+use Rattle.book.proofs.Turns.{head-picture, head-rule}
+use Rattle.book.proofs.Judged.{picture-goes}
+use Rattle.book.proofs.Fields.{field-headed}
+
+-- a tag, the length of the body in two bytes, and the body, after x and before y
+module _ {s : List ℕ} (x y : List ℕ) (tag high low : ℕ) (body : List ℕ) (q : s ≡ x ++ (tag ∷ high ∷ low ∷ body ++ y)) (l : length body ≡ 256 * high + low) where
+  tag-at : getD s (length x) 0 ≡ tag
+  tag-at = rw q (getD-append-seam x tag (high ∷ low ∷ body ++ y) 0)
+
+  high-at : getD s (length x + 1) 0 ≡ high
+  high-at = rw q (getD-append-add x (tag ∷ high ∷ low ∷ body ++ y) 1 0)
+
+  low-at : getD s (length x + 2) 0 ≡ low
+  low-at = rw q (getD-append-add x (tag ∷ high ∷ low ∷ body ++ y) 2 0)
+
+  size-at : sizeAt s (length x) ≡ length body
+  size-at = rw (high-at, low-at) (sym l)
+
+  pub ends-within : length x + 3 + length body ≤ length s
+  ends-within =
+      let n : length s ≡ length x + suc (suc (suc (length (body ++ y)))) = rw q (length-append x (tag ∷ high ∷ low ∷ body ++ y)) in
+      omega (arith, n, length-append body y)
+
+  body-at : part s (length x + 3) (length x + 3 + length body) ≡ body
+  body-at =
+      let h = tag ∷ high ∷ low ∷ [] in
+      let m : length x + 3 ≡ length (x ++ h) = sym (length-append x h) in
+      let e : length x + 3 + length body - (length x + 3) ≡ length body = omega arith in
+      let d : drop (length x + 3) s ≡ body ++ y = rw (m, q) (ap (drop (length (x ++ h))) (sym (append-assoc x h (body ++ y))) ∙ drop-append-seam (x ++ h) (body ++ y)) in
+      rw (e, d) (take-append-seam body y)
+
+  module _ (a : Content) where
+    pub picture-read : tag ≡ 0x50 → length (a .pictures) < mostPictures → ascending body ≡ true → fieldAt s (length x) a ≡ goes (length x + 3 + length body) (withPicture a body)
+    unfolding fieldOf
+    picture-read t few up =
+        let w = ends-within in
+        let k : length x + 3 + sizeAt s (length x) ≤ length s = rw size-at w in
+        let h = head-picture s (length x) (omega arith) k (tag-at ∙ t) in
+        field-headed s (length x) (Picture (length x + 3) (length x + 3 + sizeAt s (length x))) refl (sym h) a
+        ∙ rw (size-at, body-at) (picture-goes (length x) (length x + 3 + length body) a body few up)
+
+    pub rule-read : tag ≡ 0x52 → judgeRule (length (a .rules)) (length (a .pictures)) (length x) body ≡ Accepted → fieldAt s (length x) a ≡ goes (length x + 3 + length body) (withRule a (symbolsOf body))
+    unfolding fieldOf ruleField outcome
+    rule-read t sound =
+        let w = ends-within in
+        let k : length x + 3 + sizeAt s (length x) ≤ length s = rw size-at w in
+        let h = head-rule s (length x) (omega arith) k (λ z. omega (arith, tag-at)) (tag-at ∙ t) in
+        field-headed s (length x) (Rule (length x + 3) (length x + 3 + sizeAt s (length x))) refl (sym h) a
+        ∙ rw (size-at, body-at, sound)
+
+-- what each of many equal parts takes one further
+module _ {s : List ℕ} (l : List ℕ) (most : ℕ) (Q : ℕ → ℕ → Type 0)
+    (one : (x y : List ℕ) (i : ℕ) → s ≡ x ++ (l ++ y) → i < most → Q (length x) i → Q (length x + length l) (suc i)) where
+  pub many : (k : ℕ) (x y : List ℕ) (i : ℕ) → s ≡ x ++ (repeated k l ++ y) → i + k ≤ most → Q (length x) i → Q (length (x ++ repeated k l)) (i + k)
+  unfolding repeated
+  many zero x y i q h p = rw (append-nil x, add-zero i) p
+  many (suc k) x y i q h p =
+      let e : s ≡ x ++ (l ++ (repeated k l ++ y)) = q ∙ ap (λ (z : List ℕ). x ++ z) (append-assoc l (repeated k l) y) in
+      let f : s ≡ x ++ l ++ (repeated k l ++ y) = e ∙ sym (append-assoc x l (repeated k l ++ y)) in
+      let n : suc i + k ≡ i + suc k = omega arith in
+      let r = many k (x ++ l) y (suc i) f (omega arith) (subst (λ (m : ℕ). Q m (suc i)) (sym (length-append x l)) (one x y′ i e (omega arith) p)) in
+      rw (append-assoc x l (repeated k l), n) at r
+    where
+      y′ : List ℕ
+      y′ = repeated k l ++ y

@@ -17,7 +17,7 @@ use Rattle.book.specs.Meant.{memberIn, rulesIn, rulesHeld}
 use Rattle.book.specs.Apart.{Apart, Shares, ApartIsUnshared, pictureFrom, mapBefore, memberBefore, ApartAsBefore}
 use Rattle.book.proofs.Cases.{by-test, by-lt, by-eq, clash}
 use Rattle.book.proofs.Tables.{getD-table}
-use Rattle.book.proofs.Meant.{member-same}
+use Rattle.book.proofs.Meant.{member-past, member-same}
 
 -- a picture with a member is one of the book
 inside : (ps : List (List ℕ)) (q c : ℕ) → member c (getD ps q []) ≡ true → q < length ps
@@ -85,7 +85,7 @@ module _ (a : Content) (S : Sound a) (apart : Apart (a .pictures)) where
   member-before p c =
       by-lt c 256
       (λ h. rw (lt-ltb c 256 h, getD-table 256 (pictureFrom 0 ps) c 0 h) (by-number p c (one-or-none 0 ps c)))
-      (λ h. rw (le-ltb c 256 h) (by-test (member c (getD ps p [])) (λ t. absurd (omega (arith, S .bytes p c t))) sym))
+      (λ h. rw (le-ltb c 256 h) (member-past a S p c h))
 
   members : (p c : ℕ) → memberBefore (mapBefore ps) p c ≡ memberIn (mapOf ps) p c
   members p c = member-before p c ∙ sym (member-same a S p c)

@@ -1,6 +1,6 @@
 -- The largest book is accepted: its pictures one by one, then its rules. Assumes nothing.
 use Prim.Native.Nat.{ℕ, zero, suc, _+_, _*_, _<_}
-use mathlib.Core.Path.{_≡_, refl, sym, ap, subst, _∙_}
+use mathlib.Core.Path.{_≡_, refl, sym, ap, _∙_}
 use mathlib.Core.Bool.{true}
 use mathlib.Core.List.{List, [], _∷_, _++_, append-nil}
 use native.Mathlib.Omega.{arith}
@@ -12,13 +12,13 @@ use Rattle.book.specs.Limits.{mostPictures, mostRules, mostSymbols}
 use Rattle.book.specs.Content.{Content, nothing, withPicture, withRule, table}
 use Rattle.book.specs.Format.{rises, ascending, judgeSymbol, firstOf, judgeSymbols, symbolsOf, judgeRule, means, ended, meaningOf}
 use Rattle.book.specs.Numbers.{repeated}
-use Rattle.book.specs.Which.{Before, start, next}
+use Rattle.book.specs.Which.{Before, start}
 use Rattle.book.specs.Largest.{allBytes, longRule, largest, LargestAccepted}
 use Rattle.book.proofs.Tables.{length-table, length-snoc}
 use Rattle.book.proofs.Judged.{rule-judged}
 use Rattle.book.proofs.Before.{rest-before, rest-ends}
 use Rattle.book.proofs.Numbers.{numbered}
-use Rattle.book.proofs.Written.{ends-within, picture-read, rule-read, many}
+use Rattle.book.proofs.Written.{before-end, picture-read, rule-read, many}
 
 length-repeated : (k : ℕ) (l : List ℕ) → length (repeated k l) ≡ k * length l
 unfolding repeated
@@ -36,8 +36,8 @@ unfolding repeated judgeSymbols judgeSymbol firstOf
 symbols-sound zero i = refl
 symbols-sound (suc k) i = symbols-sound k (i + 2)
 
-rule-sound : (n at : ℕ) → n < mostRules → judgeRule n mostPictures at (repeated mostSymbols (1 ∷ 15 ∷ [])) ≡ Accepted
-rule-sound n at h =
+long-sound : (n at : ℕ) → n < mostRules → judgeRule n mostPictures at (repeated mostSymbols (1 ∷ 15 ∷ [])) ≡ Accepted
+long-sound n at h =
     let body = repeated mostSymbols (1 ∷ 15 ∷ []) in
     let l : length body ≡ mostSymbols * 2 = length-repeated mostSymbols (1 ∷ 15 ∷ []) in
     sym (rule-judged n mostPictures at body h (omega arith) (λ z. omega arith) (λ z. omega arith)) ∙ symbols-sound mostSymbols (at + 3)
@@ -52,30 +52,25 @@ record Stands (s : List ℕ) (at p k : ℕ) : Type 0 where
   rules : length (content .rules) ≡ k
 
 picture-more : {s : List ℕ} (x y : List ℕ) (i : ℕ) → s ≡ x ++ (allBytes ++ y) → i < mostPictures → Stands s (length x) i 0 → Stands s (length x + length allBytes) (suc i) 0
-picture-more {s} x y i q h r =
+picture-more x y i q h r =
     let a = r .content in
     let m = table 256 (λ c. c) in
     let l : length m ≡ 256 = length-table 256 (λ c. c) in
-    let w = ends-within x y 0x50 1 0 m q l in
-    let e : length x + 3 + length m ≡ length x + length allBytes = omega arith in
     record {
       content = withPicture a m;
-      before = subst (λ (n : ℕ). Before s n (withPicture a m)) e (next (r .before) (omega arith) (picture-read x y 0x50 1 0 m q l a refl (rw (r .pictures) h) all-ascend));
+      before = before-end x y 0x50 1 0 m q l (r .before) (picture-read x y 0x50 1 0 m q l a refl (rw (r .pictures) h) all-ascend);
       pictures = length-snoc (a .pictures) m ∙ omega (arith, r .pictures);
       rules = r .rules;
     }
 
 rule-more : {s : List ℕ} (x y : List ℕ) (i : ℕ) → s ≡ x ++ (longRule ++ y) → i < mostRules → Stands s (length x) mostPictures i → Stands s (length x + length longRule) mostPictures (suc i)
-rule-more {s} x y i q h r =
+rule-more x y i q h r =
     let a = r .content in
     let m = repeated mostSymbols (1 ∷ 15 ∷ []) in
     let l : length m ≡ 128 = length-repeated mostSymbols (1 ∷ 15 ∷ []) in
-    let w = ends-within x y 0x52 0 128 m q l in
-    let e : length x + 3 + length m ≡ length x + length longRule = omega arith in
-    let b = withRule a (symbolsOf m) in
     record {
-      content = b;
-      before = subst (λ (n : ℕ). Before s n b) e (next (r .before) (omega arith) (rule-read x y 0x52 0 128 m q l a refl (rw (r .pictures, r .rules) (rule-sound i (length x) h))));
+      content = withRule a (symbolsOf m);
+      before = before-end x y 0x52 0 128 m q l (r .before) (rule-read x y 0x52 0 128 m q l a refl (rw (r .pictures, r .rules) (long-sound i (length x) h)));
       pictures = r .pictures;
       rules = length-snoc (a .rules) (symbolsOf m) ∙ omega (arith, r .rules);
     }

@@ -1,6 +1,7 @@
 -- The rules of a record's arrays, place by place, and they are the rules of what an accepted book holds. Assumes nothing.
-use Prim.Native.Nat.{ℕ, _+_, _*_, _<_}
+use Prim.Native.Nat.{ℕ, _+_, _*_, _≤_, _<_}
 use mathlib.Core.Path.{_≡_, sym, ap, _∙_}
+use mathlib.Core.Bool.{false}
 use mathlib.Core.List.{List, []}
 use native.Mathlib.Omega.{arith}
 use lib.ListN.{length, getD, List·getD-eq-default}
@@ -49,15 +50,17 @@ module _ (a : Content) (S : Sound a) where
       ∙ sym (is-table (getD (sizes mostRules (a .rules)) k 0) _ (getD (a .rules) k []) (sym s)
       (λ j l. sym (getD-rows mostRules mostSymbols (a .rules) k j m (omega (arith, S .short k))))))
 
+  -- no picture has a number that is no byte
+  pub member-past : (p c : ℕ) → 256 ≤ c → false ≡ member c (getD (a .pictures) p [])
+  member-past p c h = by-test (member c (getD (a .pictures) p [])) (λ t. absurd (omega (arith, S .bytes p c t))) sym
+
   -- the members by the map and by the lists
   pub member-same : (p c : ℕ) → memberIn (mapOf (a .pictures)) p c ≡ member c (getD (a .pictures) p [])
   unfolding memberIn
   member-same p c =
       by-lt c 256
       (λ h. rw (getD-map (a .pictures) c h) (has-pictures (a .pictures) (S .fewPictures) p c))
-      (λ h.
-      rw (List·getD-eq-default (mapOf (a .pictures)) 0 {n = c} (rw length-map h), has-empty p)
-      (by-test (member c (getD (a .pictures) p [])) (λ t. absurd (omega (arith, S .bytes p c t))) sym))
+      (λ h. rw (List·getD-eq-default (mapOf (a .pictures)) 0 {n = c} (rw length-map h), has-empty p) (member-past p c h))
 
   -- the record that holds the content has its rules
   pub rules-same-held : {b : Book} → b ≡ recordOf a → rulesHeld b ≡ rulesOf a

@@ -60,7 +60,7 @@ module _ (s : List ℕ) where
   is-refused r e = record {
     named = ap (λ m. numberOf (handed m .answer)) e;
     some = number-some r .0;
-    unused = number-some r .2;
+    notFour = number-some r .2;
     later = number-some r .1;
     placed = ap (λ m. valueOf (handed m .answer)) e;
     empty = ap (λ m. handed m .book) e;

@@ -1,8 +1,8 @@
 -- An accepted book is lawful: it is sound, has a rule, and has no more bytes than fields as large as they may be. Assumes nothing.
-use Prim.Native.Nat.{ℕ, suc, _+_, _*_, _≤_}
+use Prim.Native.Nat.{ℕ, zero, suc, _+_, _*_, _≤_}
 use mathlib.Core.Path.{_≡_, refl}
 use mathlib.Core.List.{List, [], _∷_, _++_}
-use native.Mathlib.Nat.{mul-le-mul-right, suc-mul}
+use native.Mathlib.Nat.{suc-mul}
 use native.Mathlib.Omega.{arith}
 use lib.ListN.{length, getD}
 use Rattle.book.specs.declared.Answer.the-variants.{Accepted}
@@ -24,13 +24,11 @@ total-snoc w [] l = omega arith
 total-snoc w (x ∷ ls) l = omega (arith, total-snoc w ls l)
 
 -- at most n lists, of which none adds more than b
-total-most : (w : List ℕ → ℕ) (b : ℕ) (ls : List (List ℕ)) → ((k : ℕ) → w (getD ls k []) ≤ b) → total w ls ≤ length ls * b
+total-most : (w : List ℕ → ℕ) (b n : ℕ) (ls : List (List ℕ)) → length ls ≤ n → ((k : ℕ) → w (getD ls k []) ≤ b) → total w ls ≤ n * b
 unfolding total
-total-most w b [] h = omega arith
-total-most w b (l ∷ ls) h = omega (arith, h 0, total-most w b ls (λ k. h (suc k)), suc-mul (length ls) b)
-
-most : (w : List ℕ → ℕ) (b n : ℕ) (ls : List (List ℕ)) → length ls ≤ n → ((k : ℕ) → w (getD ls k []) ≤ b) → total w ls ≤ n * b
-most w b n ls few h = omega (arith, total-most w b ls h, mul-le-mul-right b few)
+total-most w b n [] few h = omega arith
+total-most w b zero (l ∷ ls) few h = absurd (omega arith)
+total-most w b (suc n) (l ∷ ls) few h = omega (arith, h 0, total-most w b n ls (omega arith) (λ k. h (suc k)), suc-mul n b)
 
 -- ---- the whole book
 
@@ -72,8 +70,8 @@ lawful s small a e =
           omega (
             arith,
             z .ends,
-            most pictureBytes (3 + 256) mostPictures (a .pictures) (S .fewPictures) (λ p. omega (arith, S .upTo p)),
-            most ruleBytes (3 + 2 * mostSymbols) mostRules (a .rules) (S .fewRules) (λ k. omega (arith, S .short k)),
+            total-most pictureBytes (3 + 256) mostPictures (a .pictures) (S .fewPictures) (λ p. omega (arith, S .upTo p)),
+            total-most ruleBytes (3 + 2 * mostSymbols) mostRules (a .rules) (S .fewRules) (λ k. omega (arith, S .short k)),
           );
     }
 

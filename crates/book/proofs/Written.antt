@@ -13,6 +13,7 @@ use Rattle.book.specs.Limits.{mostPictures}
 use Rattle.book.specs.Content.{Content, withPicture, withRule}
 use Rattle.book.specs.Format.{sizeAt, ascending, judgeRule, symbolsOf, goes, outcome, ruleField, part, fieldOf, fieldAt}
 use Rattle.book.specs.Numbers.{repeated}
+use Rattle.book.specs.Which.{Before, next}
 use Rattle.book.proofs.Turns.{head-picture, head-rule}
 use Rattle.book.proofs.Judged.{picture-goes}
 use Rattle.book.proofs.Fields.{field-headed}
@@ -31,7 +32,7 @@ module _ {s : List ℕ} (x y : List ℕ) (tag high low : ℕ) (body : List ℕ) 
   size-at : sizeAt s (length x) ≡ length body
   size-at = rw (high-at, low-at) (sym l)
 
-  pub ends-within : length x + 3 + length body ≤ length s
+  ends-within : length x + 3 + length body ≤ length s
   ends-within =
       let n : length s ≡ length x + suc (suc (suc (length (body ++ y)))) = rw q (length-append x (tag ∷ high ∷ low ∷ body ++ y)) in
       omega (arith, n, length-append body y)
@@ -43,6 +44,13 @@ module _ {s : List ℕ} (x y : List ℕ) (tag high low : ℕ) (body : List ℕ) 
       let e : length x + 3 + length body - (length x + 3) ≡ length body = omega arith in
       let d : drop (length x + 3) s ≡ body ++ y = rw (m, q) (ap (drop (length (x ++ h))) (sym (append-assoc x h (body ++ y))) ∙ drop-append-seam (x ++ h) (body ++ y)) in
       rw (e, d) (take-append-seam body y)
+
+  -- it stands before its end
+  pub before-end : {a b : Content} → Before s (length x) a → fieldAt s (length x) a ≡ goes (length x + 3 + length body) b → Before s (length x + length (tag ∷ high ∷ low ∷ body)) b
+  before-end {a} {b} p k =
+      let e : length x + 3 + length body ≡ length x + length (tag ∷ high ∷ low ∷ body) = omega arith in
+      let w = ends-within in
+      subst (λ (n : ℕ). Before s n b) e (next p (omega arith) k)
 
   module _ (a : Content) where
     pub picture-read : tag ≡ 0x50 → length (a .pictures) < mostPictures → ascending body ≡ true → fieldAt s (length x) a ≡ goes (length x + 3 + length body) (withPicture a body)

@@ -23,7 +23,7 @@ pub record IsAccepted (s : List ℕ) (a : Content) : Type 0 where
 pub record IsRefused (s : List ℕ) (r : Refusal) : Type 0 where
   pub named : numberOf (readOf s .answer) ≡ number r
   pub some : 1 ≤ number r
-  pub unused : number r ≢ 4
+  pub notFour : number r ≢ 4
   pub later : 9 < number r → (17 ≤ number r) × (number r ≤ 18)
   pub placed : valueOf (readOf s .answer) ≡ value r
   pub empty : readOf s .book ≡ recordOf nothing

@@ -15,10 +15,6 @@ module _ {b : Book} (a : Content) (e : b ≡ recordOf a) where
   unfolding recordOf
   rules-held = ap (λ x. x .rules) e
 
-  pub pictures-held : b .pictures ≡ length (a .pictures)
-  unfolding recordOf
-  pictures-held = ap (λ x. x .pictures) e
-
   pub lengths-held : b .lengths ≡ sizes mostRules (a .rules)
   unfolding recordOf
   lengths-held = ap (λ x. x .lengths) e

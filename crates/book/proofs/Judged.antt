@@ -13,8 +13,7 @@ use Rattle.book.specs.declared.Answer.{Answer}
 use Rattle.book.specs.declared.Answer.the-variants.{Accepted, Refused}
 use Rattle.book.specs.Limits.{mostPictures, mostRules, mostSymbols}
 use Rattle.book.specs.Answers.{number, numberOf}
-use Rattle.book.specs.Content.{Content, withPicture}
-use Rattle.book.specs.Format.{ascending, judgePicture, judgeSymbols, judgeRule, goes, stops, outcome, pictureField}
+use Rattle.book.specs.Format.{ascending, judgePicture, judgeSymbols, judgeRule}
 use Rattle.book.proofs.Cases.{by-test, by-lt, by-eq, never}
 
 pub number-same : {x y : Refusal} → Refused x ≡ Refused y → number x ≡ number y
@@ -22,19 +21,19 @@ number-same q = ap numberOf q
 
 -- ---- a picture
 
-module _ (at e : ℕ) (a : Content) (m : List ℕ) where
-  pub picture-many : mostPictures ≤ length (a .pictures) → pictureField at e a m ≡ stops (PictureMany at)
-  unfolding pictureField judgePicture outcome
-  picture-many h = rw (le-leb mostPictures (length (a .pictures)) h)
+module _ (p at : ℕ) (m : List ℕ) where
+  pub picture-many : mostPictures ≤ p → Refused (PictureMany at) ≡ judgePicture p at m
+  unfolding judgePicture
+  picture-many h = rw (le-leb mostPictures p h)
 
-  module _ (h : length (a .pictures) < mostPictures) where
-    pub picture-body : ascending m ≡ false → pictureField at e a m ≡ stops (PictureBody at)
-    unfolding pictureField judgePicture outcome
-    picture-body x = rw (lt-leb mostPictures (length (a .pictures)) h, x)
+  module _ (h : p < mostPictures) where
+    pub picture-body : ascending m ≡ false → Refused (PictureBody at) ≡ judgePicture p at m
+    unfolding judgePicture
+    picture-body x = rw (lt-leb mostPictures p h, x)
 
-    pub picture-goes : ascending m ≡ true → pictureField at e a m ≡ goes e (withPicture a m)
-    unfolding pictureField judgePicture outcome
-    picture-goes x = rw (lt-leb mostPictures (length (a .pictures)) h, x)
+    pub picture-fine : ascending m ≡ true → Accepted ≡ judgePicture p at m
+    unfolding judgePicture
+    picture-fine x = rw (lt-leb mostPictures p h, x)
 
 -- an accepted picture is one of few and ascends
 pub picture-sound : (p at : ℕ) (m : List ℕ) → judgePicture p at m ≡ Accepted → (p < mostPictures) × (ascending m ≡ true)

@@ -4,26 +4,20 @@ use mathlib.Core.Path.{_≡_, refl, sym, ap, _∙_}
 use mathlib.Core.Bool.{true}
 use mathlib.Core.List.{List, [], _∷_, _++_, append-nil}
 use native.Mathlib.Omega.{arith}
-use native.Mathlib.Nat.{zero-mul, suc-mul}
 use borrow.Author.Tests.{ne-eqb}
 use lib.ListN.{length, length-append}
 use Rattle.book.specs.declared.Answer.the-variants.{Accepted}
 use Rattle.book.specs.Limits.{mostPictures, mostRules, mostSymbols}
-use Rattle.book.specs.Content.{Content, nothing, withPicture, withRule, table}
-use Rattle.book.specs.Format.{rises, ascending, judgeSymbol, firstOf, judgeSymbols, symbolsOf, judgeRule, means, ended, meaningOf}
+use Rattle.book.specs.Content.{Content, nothing, withPicture, table}
+use Rattle.book.specs.Format.{rises, ascending, judgeSymbol, firstOf, judgeSymbols, judgeRule, means, ended, meaningOf}
 use Rattle.book.specs.Numbers.{repeated}
 use Rattle.book.specs.Which.{Before, start}
 use Rattle.book.specs.Largest.{allBytes, longRule, largest, LargestAccepted}
 use Rattle.book.proofs.Tables.{length-table, length-snoc}
-use Rattle.book.proofs.Judged.{rule-judged}
+use Rattle.book.proofs.Judged.{picture-fine, rule-judged}
 use Rattle.book.proofs.Before.{rest-before, rest-ends}
 use Rattle.book.proofs.Numbers.{numbered}
-use Rattle.book.proofs.Written.{before-end, picture-read, rule-read, many}
-
-length-repeated : (k : ℕ) (l : List ℕ) → length (repeated k l) ≡ k * length l
-unfolding repeated
-length-repeated zero l = sym (zero-mul (length l))
-length-repeated (suc k) l = length-append l (repeated k l) ∙ omega (arith, length-repeated k l, suc-mul k (length l))
+use Rattle.book.proofs.Written.{before-end, picture-read, length-repeated, many, Stands, rules-stand}
 
 -- ---- a picture and a rule
 
@@ -44,13 +38,6 @@ long-sound n at h =
 
 -- ---- all of them
 
--- before a place stand so many pictures and rules
-record Stands (s : List ℕ) (at p k : ℕ) : Type 0 where
-  content : Content
-  before : Before s at content
-  pictures : length (content .pictures) ≡ p
-  rules : length (content .rules) ≡ k
-
 picture-more : {s : List ℕ} (x y : List ℕ) (i : ℕ) → s ≡ x ++ (allBytes ++ y) → i < mostPictures → Stands s (length x) i 0 → Stands s (length x + length allBytes) (suc i) 0
 picture-more x y i q h r =
     let a = r .content in
@@ -58,21 +45,9 @@ picture-more x y i q h r =
     let l : length m ≡ 256 = length-table 256 (λ c. c) in
     record {
       content = withPicture a m;
-      before = before-end x y 0x50 1 0 m q l (r .before) (picture-read x y 0x50 1 0 m q l a refl (rw (r .pictures) h) all-ascend);
+      before = before-end x y 0x50 1 0 m q l (r .before) (picture-read x y 0x50 1 0 m q l a refl (sym (picture-fine (length (a .pictures)) (length x) m (rw (r .pictures) h) all-ascend)));
       pictures = length-snoc (a .pictures) m ∙ omega (arith, r .pictures);
       rules = r .rules;
-    }
-
-rule-more : {s : List ℕ} (x y : List ℕ) (i : ℕ) → s ≡ x ++ (longRule ++ y) → i < mostRules → Stands s (length x) mostPictures i → Stands s (length x + length longRule) mostPictures (suc i)
-rule-more x y i q h r =
-    let a = r .content in
-    let m = repeated mostSymbols (1 ∷ 15 ∷ []) in
-    let l : length m ≡ 128 = length-repeated mostSymbols (1 ∷ 15 ∷ []) in
-    record {
-      content = withRule a (symbolsOf m);
-      before = before-end x y 0x52 0 128 m q l (r .before) (rule-read x y 0x52 0 128 m q l a refl (rw (r .pictures, r .rules) (long-sound i (length x) h)));
-      pictures = r .pictures;
-      rules = length-snoc (a .rules) (symbolsOf m) ∙ omega (arith, r .rules);
     }
 
 all-stand : Stands largest (length largest) mostPictures mostRules
@@ -80,7 +55,7 @@ all-stand =
     let ps = repeated mostPictures allBytes in
     let rs = repeated mostRules longRule in
     let first = many allBytes mostPictures (λ at i. Stands largest at i 0) picture-more mostPictures [] rs 0 refl (omega arith) (record { content = nothing; before = start; pictures = refl; rules = refl }) in
-    many longRule mostRules (λ at i. Stands largest at mostPictures i) rule-more mostRules ps [] 0 (ap (λ (z : List ℕ). ps ++ z) (sym (append-nil rs))) (omega arith) first
+    rules-stand mostPictures 0 128 (repeated mostSymbols (1 ∷ 15 ∷ [])) (length-repeated mostSymbols (1 ∷ 15 ∷ [])) long-sound ps [] (ap (λ (z : List ℕ). ps ++ z) (sym (append-nil rs))) first
 
 accepted : (a : Content) → Before largest (length largest) a → length (a .rules) ≡ mostRules → meaningOf largest ≡ means a
 unfolding ended

@@ -22,4 +22,5 @@ pub mod Accepted
 pub mod Numbers
 pub mod Which
 pub mod Written
+pub mod Answered
 pub mod Largest

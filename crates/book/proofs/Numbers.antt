@@ -1,4 +1,4 @@
--- What a read hands back is what its bytes mean, in the numbers of the paper; and small books by computation. Assumes nothing.
+-- What a read hands back is what its bytes mean, in the numbers of the paper. Assumes nothing.
 use Prim.Native.Nat.{ℕ, _≤_, _<_}
 use mathlib.Core.Path.{_≡_, refl, sym, ap, ap₂, _∙_}
 use mathlib.Core.Logic.{_↔_, _≢_}
@@ -10,8 +10,8 @@ use Rattle.book.specs.declared.Refusal.{Refusal}
 use Rattle.book.specs.declared.Refusal.the-variants.{Cut, OtherTag, PictureBody, PictureMany, RuleBody, RuleLong, RuleMany, NoRule, UnknownKind, UndefinedPicture}
 use Rattle.book.specs.Answers.{number, value, numberOf, valueOf}
 use Rattle.book.specs.Content.{Content}
-use Rattle.book.specs.Format.{headAt, rises, ascending, judgePicture, judgeSymbol, firstOf, judgeSymbols, symbolsOf, judgeRule, outcome, pictureField, ruleField, fieldOf, fieldAt, Meaning, means, refused, follow, ended, fields, meaningOf, handed, readOf}
-use Rattle.book.specs.Numbers.{Gives, IsAccepted, IsRefused, Numbered, repeated, cases, Answered}
+use Rattle.book.specs.Format.{Meaning, means, refused, meaningOf, handed, readOf}
+use Rattle.book.specs.Numbers.{Gives, IsAccepted, IsRefused, Numbered}
 
 -- a refusal's number is 1 to 9, 17 or 18, and never 4
 pub number-some : (r : Refusal) → (1 ≤ number r) × (9 < number r → (17 ≤ number r) × (number r ≤ 18)) × (number r ≢ 4)
@@ -91,7 +91,3 @@ gives s r = (into, λ e. (is-refused s r e .named, is-refused s r e .placed))
         let (x, e) = by-other s (meaningOf s) refl (rw n (number-some r .0)) in
         let f = is-refused s x e in
         e ∙ ap refused (sym (is-refusal x) ∙ ap₂ refusal-of (sym (f .named) ∙ n) (sym (f .placed) ∙ v) ∙ is-refusal r)
-
-pub answered : Answered cases
-unfolding repeated readOf handed meaningOf fields follow ended fieldAt fieldOf headAt pictureField judgePicture ascending rises ruleField outcome judgeRule judgeSymbols judgeSymbol firstOf symbolsOf
-answered = ((refl, refl), ((refl, refl), ((refl, refl), ((refl, refl), ((refl, refl), ((refl, refl), ((refl, refl), ((refl, refl), ((refl, refl), ((refl, refl), ((refl, refl), ((refl, refl), tt))))))))))))

@@ -1,7 +1,7 @@
 -- The picture map: the set at each byte, and the map of one picture more. Assumes nothing.
 use Prim.Native.Nat.{ℕ, _≤_, _<_}
-use mathlib.Core.Path.{_≡_, refl, ap, _∙_}
-use mathlib.Core.Bool.{Bool, true, false, _||_, cond, or-true, or-false, or-assoc, or-self}
+use mathlib.Core.Path.{_≡_, refl, _∙_}
+use mathlib.Core.Bool.{Bool, true, false, _||_, cond, or-true, or-false}
 use mathlib.Core.List.{List, [], _∷_, _++_}
 use native.Mathlib.Omega.{arith}
 use borrow.Author.Tests.{eqb-true, eqb-false, eq-eqb, ne-eqb, lt-ltb, le-ltb}
@@ -9,7 +9,7 @@ use lib.ListN.{length, getD, set, length-set, List·getD-eq-default}
 use lib.Seq.{getD-set-same, getD-set-other}
 use lib.Dec.{eqb}
 use Rattle.sets.specs.Sets.{has, adding}
-use Rattle.sets.proofs.Laws.{has-in, has-setWhere, setWhere-ext}
+use Rattle.sets.proofs.Laws.{has-in, has-setWhere, setWhere-ext, adding-again}
 use Rattle.book.specs.Limits.{mostPictures}
 use Rattle.book.specs.Content.{member, picturesWith, mapOf}
 use Rattle.book.specs.Leaves.{mark}
@@ -34,15 +34,6 @@ has-pictures ps few p c =
     (λ h. rw (le-ltb p mostPictures h, List·getD-eq-default ps [] {n = p} (omega arith)))
 
 -- ---- a picture more
-
--- what is in a set already
-adding-again : (n s p : ℕ) → adding n (adding n s p) p ≡ adding n s p
-unfolding adding
-adding-again n s p =
-    setWhere-ext n _ _
-    (λ i h.
-    rw (has-in n i (λ k. has s k || eqb k p) h)
-    (or-assoc (has s i) (eqb i p) (eqb i p) ∙ ap (λ t. has s i || t) (or-self (eqb i p))))
 
 length-mark : (p : ℕ) (m map : List ℕ) → length (mark p map m) ≡ length map
 unfolding mark

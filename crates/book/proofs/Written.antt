@@ -1,21 +1,21 @@
 -- A field that is written out is read so, and so are many of one kind. Assumes nothing.
 use Prim.Native.Nat.{ℕ, zero, suc, _+_, _*_, _-_, _≤_, _<_}
 use mathlib.Core.Path.{_≡_, refl, sym, ap, subst, _∙_}
-use mathlib.Core.Bool.{true}
 use mathlib.Core.List.{List, [], _∷_, _++_, append-assoc, append-nil}
-use native.Mathlib.Nat.{add-zero}
+use native.Mathlib.Nat.{add-zero, zero-mul, suc-mul}
 use native.Mathlib.Omega.{arith}
 use lib.ListN.{length, getD, drop, length-append}
 use lib.Seq.{getD-append-seam, getD-append-add, take-append-seam, drop-append-seam}
 use Rattle.book.specs.declared.Head.the-variants.{Picture, Rule}
+use Rattle.book.specs.declared.Answer.{Answer}
 use Rattle.book.specs.declared.Answer.the-variants.{Accepted}
-use Rattle.book.specs.Limits.{mostPictures}
+use Rattle.book.specs.Limits.{mostRules}
 use Rattle.book.specs.Content.{Content, withPicture, withRule}
-use Rattle.book.specs.Format.{sizeAt, ascending, judgeRule, symbolsOf, goes, outcome, ruleField, part, fieldOf, fieldAt}
+use Rattle.book.specs.Format.{sizeAt, judgePicture, judgeRule, symbolsOf, goes, outcome, pictureField, ruleField, part, fieldOf, fieldAt}
 use Rattle.book.specs.Numbers.{repeated}
 use Rattle.book.specs.Which.{Before, next}
+use Rattle.book.proofs.Tables.{length-snoc}
 use Rattle.book.proofs.Turns.{head-picture, head-rule}
-use Rattle.book.proofs.Judged.{picture-goes}
 use Rattle.book.proofs.Fields.{field-headed}
 
 -- a tag, the length of the body in two bytes, and the body, after x and before y
@@ -53,23 +53,36 @@ module _ {s : List ℕ} (x y : List ℕ) (tag high low : ℕ) (body : List ℕ) 
       subst (λ (n : ℕ). Before s n b) e (next p (omega arith) k)
 
   module _ (a : Content) where
-    pub picture-read : tag ≡ 0x50 → length (a .pictures) < mostPictures → ascending body ≡ true → fieldAt s (length x) a ≡ goes (length x + 3 + length body) (withPicture a body)
-    unfolding fieldOf
-    picture-read t few up =
+    pub picture-read : tag ≡ 0x50 → judgePicture (length (a .pictures)) (length x) body ≡ Accepted → fieldAt s (length x) a ≡ goes (length x + 3 + length body) (withPicture a body)
+    unfolding fieldOf pictureField outcome
+    picture-read t sound =
         let w = ends-within in
         let k : length x + 3 + sizeAt s (length x) ≤ length s = rw size-at w in
         let h = head-picture s (length x) (omega arith) k (tag-at ∙ t) in
         field-headed s (length x) (Picture (length x + 3) (length x + 3 + sizeAt s (length x))) refl (sym h) a
-        ∙ rw (size-at, body-at) (picture-goes (length x) (length x + 3 + length body) a body few up)
+        ∙ rw (size-at, body-at, sound)
 
-    pub rule-read : tag ≡ 0x52 → judgeRule (length (a .rules)) (length (a .pictures)) (length x) body ≡ Accepted → fieldAt s (length x) a ≡ goes (length x + 3 + length body) (withRule a (symbolsOf body))
-    unfolding fieldOf ruleField outcome
-    rule-read t sound =
+    pub rule-read : tag ≡ 0x52 → {t : Answer} → judgeRule (length (a .rules)) (length (a .pictures)) (length x) body ≡ t → fieldAt s (length x) a ≡ outcome t (length x + 3 + length body) (withRule a (symbolsOf body))
+    unfolding fieldOf ruleField
+    rule-read t judged =
         let w = ends-within in
         let k : length x + 3 + sizeAt s (length x) ≤ length s = rw size-at w in
         let h = head-rule s (length x) (omega arith) k (λ z. omega (arith, tag-at)) (tag-at ∙ t) in
         field-headed s (length x) (Rule (length x + 3) (length x + 3 + sizeAt s (length x))) refl (sym h) a
-        ∙ rw (size-at, body-at, sound)
+        ∙ rw (size-at, body-at, judged)
+
+-- ---- many fields
+
+pub length-repeated : (k : ℕ) (l : List ℕ) → length (repeated k l) ≡ k * length l
+unfolding repeated
+length-repeated zero l = sym (zero-mul (length l))
+length-repeated (suc k) l = length-append l (repeated k l) ∙ omega (arith, length-repeated k l, suc-mul k (length l))
+
+-- one more stands at the end as well as at the start
+pub repeated-last : (k : ℕ) (l : List ℕ) → repeated (suc k) l ≡ repeated k l ++ l
+unfolding repeated
+repeated-last zero l = append-nil l
+repeated-last (suc k) l = ap (λ (z : List ℕ). l ++ z) (repeated-last k l) ∙ sym (append-assoc l (repeated k l) l)
 
 -- what each of many equal parts takes one further
 module _ {s : List ℕ} (l : List ℕ) (most : ℕ) (Q : ℕ → ℕ → Type 0)
@@ -86,3 +99,26 @@ module _ {s : List ℕ} (l : List ℕ) (most : ℕ) (Q : ℕ → ℕ → Type 0)
     where
       y′ : List ℕ
       y′ = repeated k l ++ y
+
+-- before a place stand so many pictures and rules
+pub record Stands (s : List ℕ) (at p k : ℕ) : Type 0 where
+  pub content : Content
+  pub before : Before s at content
+  pub pictures : length (content .pictures) ≡ p
+  pub rules : length (content .rules) ≡ k
+
+-- equal rules after p pictures, each accepted where there is room: as many as there may be
+module _ {s : List ℕ} (p high low : ℕ) (body : List ℕ) (l : length body ≡ 256 * high + low) (sound : (n at : ℕ) → n < mostRules → judgeRule n p at body ≡ Accepted) where
+  rule-more : (x y : List ℕ) (i : ℕ) → s ≡ x ++ (0x52 ∷ high ∷ low ∷ body ++ y) → i < mostRules → Stands s (length x) p i → Stands s (length x + length (0x52 ∷ high ∷ low ∷ body)) p (suc i)
+  unfolding outcome
+  rule-more x y i q h r =
+      let a = r .content in
+      record {
+        content = withRule a (symbolsOf body);
+        before = before-end x y 0x52 high low body q l (r .before) (rule-read x y 0x52 high low body q l a refl {t = Accepted} (rw (r .pictures, r .rules) (sound i (length x) h)));
+        pictures = r .pictures;
+        rules = length-snoc (a .rules) (symbolsOf body) ∙ omega (arith, r .rules);
+      }
+
+  pub rules-stand : (x y : List ℕ) → s ≡ x ++ (repeated mostRules (0x52 ∷ high ∷ low ∷ body) ++ y) → Stands s (length x) p 0 → Stands s (length (x ++ repeated mostRules (0x52 ∷ high ∷ low ∷ body))) p mostRules
+  rules-stand x y q r = many (0x52 ∷ high ∷ low ∷ body) mostRules (λ at i. Stands s at p i) rule-more mostRules x y 0 q (omega arith) r

@@ -7,7 +7,7 @@ mostPictures = 16
 
 -- the most rules of a book
 abbrev pub mostRules : ℕ
-mostRules = 64
+mostRules = 256
 
 -- the most symbols of a rule
 abbrev pub mostSymbols : ℕ

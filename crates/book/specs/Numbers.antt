@@ -61,7 +61,7 @@ cases =
     ∷ record { bytes = repeated 17 (0x50 ∷ 0 ∷ 1 ∷ 97 ∷ []); number = 5; value = 64 }
     ∷ record { bytes = 0x50 ∷ 0 ∷ 1 ∷ 97 ∷ 0x52 ∷ 0 ∷ 1 ∷ 2 ∷ []; number = 6; value = 4 }
     ∷ record { bytes = 0x50 ∷ 0 ∷ 1 ∷ 97 ∷ 0x52 ∷ 0 ∷ 130 ∷ replicate 130 2; number = 7; value = 4 }
-    ∷ record { bytes = repeated 65 (0x52 ∷ 0 ∷ 2 ∷ 0 ∷ 97 ∷ []); number = 8; value = 320 }
+    ∷ record { bytes = repeated 257 (0x52 ∷ 0 ∷ 2 ∷ 0 ∷ 97 ∷ []); number = 8; value = 1280 }
     ∷ record { bytes = 0x50 ∷ 0 ∷ 1 ∷ 97 ∷ 0x52 ∷ 0 ∷ 6 ∷ 1 ∷ 0 ∷ 2 ∷ 0 ∷ 1 ∷ 1 ∷ []; number = 17; value = 9 }
     ∷ record { bytes = 0x50 ∷ 0 ∷ 1 ∷ 97 ∷ 0x52 ∷ 0 ∷ 6 ∷ 1 ∷ 0 ∷ 1 ∷ 1 ∷ 2 ∷ 0 ∷ []; number = 18; value = 9 }
     ∷ []

@@ -67,4 +67,4 @@ NamedEarlier = (at e e′ : ℕ) (a b : Content) (l : List ℕ) → ByteText l �
 
 -- the paper's number of bytes
 abbrev pub MostBook : Type 0
-MostBook = mostBook ≡ 12528
+MostBook = mostBook ≡ 37680

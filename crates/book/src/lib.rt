@@ -1,15 +1,15 @@
 // The reader of rule books: from a book's bytes to one record, or the first refusal.
 ghost use mathlib.Core.Path.{_≡_};
 ghost use Prim.Native.Nat.{_+_, _*_, _/_, _^_, _<_, _≤_};
-ghost use lib.ListN.{length};
+ghost use lib.ListN.{length, set};
 ghost use lib.Seq.{sets};
 ghost use Rattle.sets.specs.Sets.{has as isIn, adding};
 ghost use Rattle.book.specs.Limits.{mostPictures, mostRules, mostSymbols, places, mostRows, mostBytes};
 ghost use Rattle.book.specs.Answers.{numberOf, valueOf};
 ghost use Rattle.book.specs.Content.{Content, nothing, recordOf};
-ghost use Rattle.book.specs.Format.{sizeAt, headAt, ascending, judgeSymbols, symbolsOf, judgeRule, pictureField, ruleField, fieldAt, readOf};
+ghost use Rattle.book.specs.Format.{sizeAt, headAt, ascending, judgePicture, judgeSymbols, symbolsOf, judgeRule, fieldAt, meaningOf, readOf};
 ghost use Rattle.book.specs.Meant.{Fits};
-ghost use Rattle.book.specs.Leaves.{mark, added, pictured, Holds, Stepped};
+ghost use Rattle.book.specs.Leaves.{mark, after, Holds, Stepped, wholeOf};
 
 // The pictures with each byte value, as a set: picture p at bit p. Other crates lend the map and ask `fits`.
 pub type Pictures = [u16; 256];
@@ -56,18 +56,17 @@ enum Head {
     Rule(usize, usize),
 }
 
-// A field taken: its answer, the place after it, and the book with it.
-struct Step {
-    answer: Answer,
-    next: usize,
-    book: Book,
+// What was taken: the place after it, and how many pictures and rules there are then; or the refusal.
+enum Step {
+    Taken(usize, u8, usize),
+    Stopped(Refusal),
 }
 
 impl Book {
     // The most pictures: as many as a set of the map has bits.
     pub const PICTURES: u8 = 16;
 
-    pub const RULES: usize = 64;
+    pub const RULES: usize = 256;
 
     // The most symbols of a rule.
     pub const SYMBOLS: usize = 64;
@@ -99,29 +98,19 @@ impl Book {
         }
     }
 
-    // The book with one rule more, whose symbols are the pairs of `body`.
-    fn with_rule(self, body: &[u8]) -> Book
-        requires { ⌜ (self .rules < mostRules) × (length (now body) ≤ 2 * mostSymbols) ⌝ }
-        ensures { λ r. ⌜ r ≡ added self (now (body .entry)) ⌝ }
+    // One rule more, the next after `rules`, whose symbols are the pairs of `body`. A book's arrays are lent, so that none is copied.
+    fn add_rule(
+        symbols: &mut [u16; Book::PLACES],
+        lengths: &mut [u8; Book::RULES],
+        rules: usize,
+        body: &[u8],
+    )
+        requires { ⌜ (rules < mostRules) × (length (now body) ≤ 2 * mostSymbols) ⌝ }
+        ensures { λ _. ⌜ now (symbols .exit) ≡ sets (now (symbols .entry)) (mostSymbols * rules) (symbolsOf (now (body .entry))) ⌝ }
+        ensures { λ _. ⌜ now (lengths .exit) ≡ set (now (lengths .entry)) rules (length (now (body .entry)) / 2) ⌝ }
     {
-        let mut book = self;
-        let k = self.rules;
-        store(&mut book.symbols, Book::SYMBOLS * k, body);
-        book.lengths[k] = (body.len() / 2) as u8;
-        book.rules = k + 1;
-        book
-    }
-
-    // The book with one picture more, whose members are the bytes of `body`.
-    fn with_picture(self, body: &[u8]) -> Book
-        requires { ⌜ self .pictures < mostPictures ⌝ }
-        ensures { λ r. ⌜ r ≡ pictured self (now (body .entry)) ⌝ }
-    {
-        let mut book = self;
-        let p = self.pictures;
-        mark_all(&mut book.picture, p, body);
-        book.pictures = p + 1;
-        book
+        store(symbols, Book::SYMBOLS * rules, body);
+        lengths[rules] = (body.len() / 2) as u8;
     }
 }
 
@@ -312,32 +301,19 @@ fn head_at(bytes: &[u8], at: usize) -> Head
     Head::Unknown
 }
 
-// A field that is refused.
-fn stopped(book: Book, why: Refusal) -> Step
-    ensures { λ r. ⌜ r .answer ≡ Answer.Refused why ⌝ }
+// The picture at `at`, the next after `pictures`: the map has it where it is accepted.
+fn take_picture(map: &mut Pictures, pictures: u8, body: &[u8], at: usize) -> Answer
+    ensures { λ r. ⌜ r ≡ judgePicture pictures at (now (body .entry)) ⌝ }
+    ensures { λ r. ⌜ now (map .exit) ≡ after r (now (map .entry)) (mark pictures (now (map .entry)) (now (body .entry))) ⌝ }
 {
-    Step {
-        answer: Answer::Refused(why),
-        next: 0,
-        book: book,
-    }
-}
-
-// The picture at `at`, whose body ends before `end`.
-fn take_picture(book: Book, body: &[u8], at: usize, end: usize) -> Step
-    ensures { λ r. ⌜ ((a : Content) → Holds book a → Stepped r (pictureField at end a (now (body .entry)))) ⌝ }
-{
-    if Book::PICTURES <= book.pictures {
-        return stopped(book, Refusal::PictureMany(at));
+    if Book::PICTURES <= pictures {
+        return Answer::Refused(Refusal::PictureMany(at));
     }
     if !is_ascending(body) {
-        return stopped(book, Refusal::PictureBody(at));
+        return Answer::Refused(Refusal::PictureBody(at));
     }
-    Step {
-        answer: Answer::Accepted,
-        next: end,
-        book: book.with_picture(body),
-    }
+    mark_all(map, pictures, body);
+    Answer::Accepted
 }
 
 // What the rule at `at` is answered after `rules` rules and `pictures` pictures.
@@ -360,71 +336,116 @@ fn judge_rule(rules: usize, pictures: u8, body: &[u8], at: usize) -> Answer
     judge_symbols(body, at + 3, pictures)
 }
 
-// The rule at `at`, whose body ends before `end`.
-fn take_rule(book: Book, body: &[u8], at: usize, end: usize) -> Step
+// The rule at `at`, the next after `rules`: the arrays have its symbols and its length where it is accepted.
+fn take_rule(
+    symbols: &mut [u16; Book::PLACES],
+    lengths: &mut [u8; Book::RULES],
+    pictures: u8,
+    rules: usize,
+    body: &[u8],
+    at: usize,
+) -> Answer
     requires { ⌜ at + 3 + length (now body) < 2 ^ 64 ⌝ }
-    ensures { λ r. ⌜ ((a : Content) → Holds book a → Stepped r (ruleField at end a (now (body .entry)))) ⌝ }
+    ensures { λ r. ⌜ r ≡ judgeRule rules pictures at (now (body .entry)) ⌝ }
+    ensures { λ r. ⌜ now (symbols .exit) ≡ after r (now (symbols .entry)) (sets (now (symbols .entry)) (mostSymbols * rules) (symbolsOf (now (body .entry)))) ⌝ }
+    ensures { λ r. ⌜ now (lengths .exit) ≡ after r (now (lengths .entry)) (set (now (lengths .entry)) rules (length (now (body .entry)) / 2)) ⌝ }
 {
-    match judge_rule(book.rules, book.pictures, body, at) {
-        Answer::Accepted => Step {
-            answer: Answer::Accepted,
-            next: end,
-            book: book.with_rule(body),
-        },
-        Answer::Refused(why) => stopped(book, why),
+    match judge_rule(rules, pictures, body, at) {
+        Answer::Accepted => {
+            Book::add_rule(symbols, lengths, rules, body);
+            Answer::Accepted
+        }
+        Answer::Refused(why) => Answer::Refused(why),
     }
 }
 
-// The field at `at`.
-fn field(book: Book, bytes: &[u8], at: usize) -> Step
+// The field at `at`, after what the arrays and the counts hold.
+fn field(
+    symbols: &mut [u16; Book::PLACES],
+    lengths: &mut [u8; Book::RULES],
+    map: &mut Pictures,
+    pictures: u8,
+    rules: usize,
+    bytes: &[u8],
+    at: usize,
+) -> Step
     requires { ⌜ at ≤ length (now bytes) ⌝ }
-    ensures { λ r. ⌜ ((a : Content) → Holds book a → Stepped r (fieldAt (now (bytes .entry)) at a)) ⌝ }
+    ensures { λ r. ⌜ ((a : Content) → Holds (now (symbols .entry)) (now (lengths .entry)) (now (map .entry)) pictures rules a → Stepped r (now (symbols .exit)) (now (lengths .exit)) (now (map .exit)) (fieldAt (now (bytes .entry)) at a)) ⌝ }
 {
     match head_at(bytes, at) {
-        Head::Short => stopped(book, Refusal::Cut(at)),
-        Head::Unknown => stopped(book, Refusal::OtherTag(at)),
-        Head::Picture(start, end) => take_picture(book, &bytes[start..end], at, end),
-        Head::Rule(start, end) => take_rule(book, &bytes[start..end], at, end),
+        Head::Short => Step::Stopped(Refusal::Cut(at)),
+        Head::Unknown => Step::Stopped(Refusal::OtherTag(at)),
+        Head::Picture(start, end) => {
+            match take_picture(map, pictures, &bytes[start..end], at) {
+                Answer::Accepted => Step::Taken(end, pictures + 1, rules),
+                Answer::Refused(why) => Step::Stopped(why),
+            }
+        }
+        Head::Rule(start, end) => {
+            match take_rule(symbols, lengths, pictures, rules, &bytes[start..end], at) {
+                Answer::Accepted => Step::Taken(end, pictures, rules + 1),
+                Answer::Refused(why) => Step::Stopped(why),
+            }
+        }
     }
 }
 
 // ---- a book
 
-// A book that is refused.
-fn refusing(why: Refusal, blank: Book) -> ReadBook
-    ensures { λ r. ⌜ (r .answer ≡ Answer.Refused why) × (r .book ≡ blank) ⌝ }
+// All fields, from arrays that hold nothing on: the two counts, or the first refusal.
+fn take_all(
+    symbols: &mut [u16; Book::PLACES],
+    lengths: &mut [u8; Book::RULES],
+    map: &mut Pictures,
+    bytes: &[u8],
+) -> Step
+    requires { ⌜ Holds (now symbols) (now lengths) (now map) 0 0 nothing ⌝ }
+    ensures { λ r. ⌜ Stepped r (now (symbols .exit)) (now (lengths .exit)) (now (map .exit)) (wholeOf (length (now (bytes .entry))) (meaningOf (now (bytes .entry)))) ⌝ }
 {
-    ReadBook {
-        answer: Answer::Refused(why),
-        book: blank,
+    let mut pictures: u8 = 0;
+    let mut rules: usize = 0;
+    let mut at: usize = 0;
+    while at < bytes.len() {
+        let step = field(symbols, lengths, map, pictures, rules, bytes, at);
+        match step {
+            Step::Taken(next, p, n) => {
+                pictures = p;
+                rules = n;
+                at = next;
+            }
+            Step::Stopped(why) => {
+                return Step::Stopped(why);
+            }
+        }
     }
+    if rules == 0 {
+        return Step::Stopped(Refusal::NoRule(bytes.len()));
+    }
+    Step::Taken(at, pictures, rules)
 }
 
-// The book that the bytes hold, or the first refusal with the empty book.
+// The book that the bytes hold, or the first refusal with the empty book. The arrays are lent, and the record is put together once.
 pub fn read(bytes: &[u8]) -> ReadBook
     ensures { λ r. ⌜ r ≡ readOf (now (bytes .entry)) ⌝ }
 {
     let blank = Book::empty();
-    let mut book = blank;
-    let mut at: usize = 0;
-    while at < bytes.len() {
-        let step = field(book, bytes, at);
-        let answer = step.answer;
-        match answer {
-            Answer::Accepted => {
-                book = step.book;
-                at = step.next;
-            }
-            Answer::Refused(why) => {
-                return refusing(why, blank);
-            }
-        }
-    }
-    if book.rules == 0 {
-        return refusing(Refusal::NoRule(bytes.len()), blank);
-    }
-    ReadBook {
-        answer: Answer::Accepted,
-        book: book,
+    let mut symbols = blank.symbols;
+    let mut lengths = blank.lengths;
+    let mut map = blank.picture;
+    match take_all(&mut symbols, &mut lengths, &mut map, bytes) {
+        Step::Taken(_, pictures, rules) => ReadBook {
+            answer: Answer::Accepted,
+            book: Book {
+                symbols: symbols,
+                lengths: lengths,
+                picture: map,
+                pictures: pictures,
+                rules: rules,
+            },
+        },
+        Step::Stopped(why) => ReadBook {
+            answer: Answer::Refused(why),
+            book: blank,
+        },
     }
 }

@@ -1,7 +1,7 @@
 // Reads books and writes, a line each: the label, the number and the value of the answer; then what the record holds: the pictures, the
 // rules, the symbols in all, their sum over all places, and the pairs of a picture and a member.
 use book::Book;
-ghost use Prim.Native.Nat.{_<_, _≤_};
+ghost use Prim.Native.Nat.{_<_};
 
 const PICTURES: usize = Book::PICTURES as usize;
 
@@ -204,10 +204,10 @@ fn two_faults() {
     show(b"17th picture empty", &empty[0..67]);
     let sharing = seventeen(1, 0);
     show(b"17th picture shares", &sharing[0..68]);
-    let none = sixty_five(0);
-    show(b"65th rule empty", &none[0..323]);
-    let long = sixty_five(130);
-    show(b"65th rule of 130 bytes", &long);
+    let none = too_many(0);
+    show(b"257th rule empty", &none[0..1283]);
+    let long = too_many(130);
+    show(b"257th rule of 130 bytes", &long);
 }
 
 // Rules with several symbols at fault: the first of them counts.
@@ -230,9 +230,9 @@ fn several_symbols() {
         b"\x52\x00\x02\x00a\x52\x00\x04\x00a\x02b\x52\x00\x02\x02a",
     );
     show(b"kind 2, next field cut", b"\x52\x00\x02\x02\x00\x52");
-    let mut rules = sixty_five(130);
-    rules[323] = 2;
-    show(b"65th rule of 130 bytes, of kind 2", &rules);
+    let mut rules = too_many(130);
+    rules[1283] = 2;
+    show(b"257th rule of 130 bytes, of kind 2", &rules);
 }
 
 fn rule_limits() {
@@ -243,9 +243,12 @@ fn rule_limits() {
 }
 
 fn rule_counts() {
-    let rules = sixty_five(2);
+    let rules = too_many(2);
     show(b"64 rules", &rules[0..320]);
     show(b"65 rules", &rules[0..325]);
+    show(b"190 rules", &rules[0..950]);
+    show(b"256 rules", &rules[0..1280]);
+    show(b"257 rules", &rules[0..1285]);
 }
 
 fn picture_counts() {
@@ -263,7 +266,7 @@ fn largest_book() {
     let one = full_picture();
     show(b"picture of 256 bytes", &one);
     let book = largest();
-    show(b"largest", &book[0..12528]);
+    show(b"largest", &book[0..37680]);
     show(b"largest and a rule", &book);
 }
 
@@ -311,13 +314,13 @@ fn rule_ending(kind: u8) -> [u8; 131] {
     a
 }
 
-// 65 rules of the byte a, the last with a body of `size` bytes, and room for 130.
-fn sixty_five(size: u8) -> [u8; 453] {
-    let mut a = [0u8; 453];
-    put(&mut a, 0, 325, 5, 0x52, 0);
-    put(&mut a, 2, 325, 5, 2, 0);
-    put(&mut a, 4, 325, 5, 0x61, 0);
-    a[322] = size;
+// 257 rules of the byte a, the last with a body of `size` bytes, and room for 130.
+fn too_many(size: u8) -> [u8; 1413] {
+    let mut a = [0u8; 1413];
+    put(&mut a, 0, 1285, 5, 0x52, 0);
+    put(&mut a, 2, 1285, 5, 2, 0);
+    put(&mut a, 4, 1285, 5, 0x61, 0);
+    a[1282] = size;
     a
 }
 
@@ -344,12 +347,12 @@ fn full_picture() -> [u8; 264] {
     a
 }
 
-// 16 pictures of all bytes, 64 rules of 64 symbols, symbol j picture j % 16; and the header of one rule more.
-fn largest() -> [u8; 12531] {
-    let mut a = [0u8; 12531];
+// 16 pictures of all bytes, 256 rules of 64 symbols, symbol j picture j % 16; and the header of one rule more.
+fn largest() -> [u8; 37683] {
+    let mut a = [0u8; 37683];
     put_pictures(&mut a);
     put_rules(&mut a);
-    a[12528] = 0x52;
+    a[37680] = 0x52;
     a
 }
 
@@ -366,12 +369,12 @@ fn put_pictures(a: &mut [u8]) {
 
 // 131 bytes from one rule to the next, after the 4,144 of the pictures.
 fn put_rules(a: &mut [u8]) {
-    put(a, 4144, 12528, 131, 0x52, 0);
-    put(a, 4146, 12528, 131, 128, 0);
+    put(a, 4144, 37680, 131, 0x52, 0);
+    put(a, 4146, 37680, 131, 128, 0);
     let mut j: u8 = 0;
     while j < 64 {
-        put(a, 4147 + 2 * small(j), 12528, 131, 1, 0);
-        put(a, 4148 + 2 * small(j), 12528, 131, j % 16, 0);
+        put(a, 4147 + 2 * small(j), 37680, 131, 1, 0);
+        put(a, 4148 + 2 * small(j), 37680, 131, j % 16, 0);
         j += 1;
     }
 }

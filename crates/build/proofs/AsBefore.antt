@@ -17,7 +17,7 @@ use Rattle.build.specs.AsBefore.{TablesAsBefore}
 use Rattle.build.proofs.Exact.{same-content, not-refused, builds-same}
 
 -- what is promised of a sound book
-of-sound : {m : Meaning} {old b : Five} {i v : ℕ} (a : Content) → m ≡ means a → Answers old m b i v → Builds (rulesOf a) old b i v
+pub of-sound : {m : Meaning} {old b : Five} {i v : ℕ} (a : Content) → m ≡ means a → Answers old m b i v → Builds (rulesOf a) old b i v
 of-sound {old = old} {b = b} {i = i} {v = v} a e (builds p) = subst (λ (x : Content). Builds (rulesOf x) old b i v) (same-content refl e) p
 of-sound a e refuses = not-refused e refl
 

@@ -5,16 +5,16 @@ use mathlib.Core.List.{List}
 use Prim.Native.Nat.{ℕ, _+_, _<_}
 use native.Mathlib.Omega.{arith}
 use native.Mathlib.Decide.{decLt}
-use lib.ListN.{length, getD, set, replicate, length-set, length-replicate}
+use lib.ListN.{getD, set, replicate, length-set, length-replicate}
 use lib.Seq.{getD-set-same, getD-set-other}
+use Rattle.sets.specs.Table.{rowWords, rulesAt}
 use Rattle.rows.proofs.Compare.{less, equal, more, order}
 use Rattle.meaning.proofs.Build.{Put}
 use Rattle.book.specs.Limits.{mostRows}
-use Rattle.build.specs.Course.{Key, Rising, chainOf, chainAt, Newest, Chains}
+use Rattle.build.specs.Course.{numberAt, Stored, Key, Rising, chainOf, chainAt, Newest, Chains}
 use Rattle.build.specs.declared.Placed.the-variants as placed
 use Rattle.build.specs.declared.Filled.the-variants as filled
 use Rattle.build.proofs.Laws.{all-zero}
-use Rattle.build.proofs.Steps.{stored-number, stored-set}
 
 pub chains-start : (m : ℕ) → m ≡ mostRows → (chain : ℕ → ℕ) → Chains (replicate m 0) (replicate m 0) chain 1
 chains-start m e chain = record {
@@ -78,12 +78,9 @@ module _ {first older : List ℕ} {old new : ℕ → ℕ} {n g : ℕ} (k : Chain
   }
 
 -- a row stored at n, in its chain
-pub chain-put : (fall live : List ℕ) (n f l : ℕ) → n < length fall → n < length live
-    → Put n (chainOf f l) (chainAt fall live) (chainAt (set fall n f) (set live n l))
-chain-put fall live n f l hf hl =
-    let a = stored-number n f fall hf in
-    let b = stored-set n l live hl in
-    record { kept = λ i h. ap₂ chainOf (a .kept i h) (b .kept i h); here = ap₂ chainOf (a .here) (b .here) }
+pub chain-put : {fall fall′ live live′ : List ℕ} {n f l g : ℕ} → Stored 1 numberAt n f fall fall′ → Stored rowWords rulesAt n l live live′ → g ≡ chainOf f l
+    → Put n g (chainAt fall live) (chainAt fall′ live′)
+chain-put a b e = record { kept = λ i h. ap₂ chainOf (a .kept i h) (b .kept i h); here = ap₂ chainOf (a .here) (b .here) ∙ sym e }
 
 -- the chains of the rows that an answer counts
 pub chains-placed : {first older : List ℕ} {chain : ℕ → ℕ} {i n e m : ℕ} → placed.Entry i n ≡ placed.Entry e m → Chains first older chain n → Chains first older chain m

@@ -1,28 +1,34 @@
 -- Laws on sets of rules, on the rules of lent arrays and on lists. Assumes nothing.
-use Prim.Native.Nat.{ℕ, zero, suc, _+_, _*_, _^_, _≤_, _<_}
+use Prim.Native.Nat.{ℕ, zero, suc, _+_, _-_, _*_, _^_, _≤_, _<_, min}
 use mathlib.Core.Path.{_≡_, refl, sym, ap, subst, subst⁻¹, _∙_}
 use mathlib.Core.Bool.{Bool, true, false}
 use mathlib.Core.List.{List, [], _∷_, _++_, append-nil}
-use native.Mathlib.Nat.{le-antisymm, le-of-lt, lt-of-lt-of-le, lt-irrefl}
+use native.Mathlib.Nat.{le-antisymm, le-of-lt, lt-of-lt-of-le, lt-irrefl, zero-add}
+use native.Mathlib.Decide.{decLt}
 use native.Mathlib.Numerals.{add-one}
 use native.Mathlib.Omega.{arith}
 use lib.Pow.{pow-mono}
-use lib.ListN.{length, getD, set, take, drop, replicate, length-set}
+use lib.ListN.{length, getD, set, take, drop, replicate, length-set, getD-replicate}
 use lib.Seq.{drop-length, getD-set-same, getD-set-other, getD-drop}
 use borrow.Author.Count.{below-more}
 use borrow.Author.Fill.{fill-more}
 use borrow.Author.Tests.{lt-ltb, le-ltb}
-use Rattle.sets.specs.Sets.{setWhere, adding}
+use Rattle.sets.specs.Sets.{has, setWhere, adding, setOf, wordWhere}
+use Rattle.sets.specs.Table.{rowWords}
 use Rattle.sets.proofs.Laws.{setWhere-lt, setWhere-ext, setWhere-with, setWhere-skip, adding-with}
+use Rattle.sets.proofs.InWords.{Words, has-at, setOf-where}
+use Rattle.sets.proofs.Writing.{Writing}
 use Rattle.meaning.specs.Rules.{fitsAt}
 use Rattle.meaning.specs.Step.{goesOn, nextLive, finished}
-use Rattle.book.specs.Limits.{mostSymbols}
+use Rattle.book.specs.Limits.{mostRules, mostSymbols}
 use Rattle.book.specs.Meant.{rulesIn}
 use Rattle.book.proofs.Meant.{count-in, size-in, symbol-in}
 use Rattle.build.specs.Promise.{zeros}
-use Rattle.build.specs.Sets.{Within, Short, Joins, endedIn}
+use Rattle.build.specs.Sets.{Within, Short, Joins, IsWord, endedIn}
 
--- a set of the rules below k, where rule k joins it, and where it does not
+-- ---- a set of rules, word by word
+
+-- a set of those below k, where k joins it, and where it does not
 pub set-with : {k s x : ℕ} (p : ℕ → Bool) → s ≡ setWhere k p → p k ≡ true → x ≡ adding 64 s k → k < 64 → x ≡ setWhere (k + 1) p
 set-with {k} {s} p e t q l =
     let small : s < 2 ^ 64 = rw e (lt-of-lt-of-le (setWhere-lt k p) (pow-mono (le-of-lt l))) in
@@ -30,6 +36,24 @@ set-with {k} {s} p e t q l =
 
 pub set-same : {k s : ℕ} (p : ℕ → Bool) → s ≡ setWhere k p → p k ≡ false → s ≡ setWhere (k + 1) p
 set-same {k} p e t = e ∙ rw add-one (setWhere-skip k p t)
+
+-- a word of a set in words
+pub is-word : (ws : List ℕ) → Words ws → (i : ℕ) → IsWord (setOf ws) i (getD ws i 0)
+is-word ws f i = record { bits = λ k h. has-at ws f i k h }
+
+-- all words are made, as those past the last rule are empty
+pub words-made : (n : ℕ) (p : ℕ → Bool) (i : ℕ) (ws : List ℕ) → n ≤ mostRules → n ≤ 64 * i → Writing (wordWhere n p) (replicate rowWords 0) 0 i ws → (setOf ws ≡ setWhere n p) × (length ws ≡ rowWords)
+unfolding setWhere
+words-made n p i ws few all w = (setOf-where n p ws (omega (arith, w .long)) at, w .long)
+  where
+    at : (j : ℕ) → j < length ws → getD ws j 0 ≡ wordWhere n p j
+    at j h =
+        elim (decLt j i) [
+          | yes l ↦ rw zero-add at (w .done j l)
+          | no l ↦
+              let none : min 64 (n - 64 * j) ≡ 0 = omega arith in
+              w .after j (omega arith) ∙ getD-replicate rowWords j 0 0 (omega (arith, w .long)) ∙ sym (ap (λ m. setWhere m (λ k. p (64 * j + k))) none)
+        ]
 
 -- ---- the rules that lent arrays hold
 
@@ -41,20 +65,20 @@ module _ (symbols lengths picture : List ℕ) (n : ℕ) where
   unfolding finished
   ended-in h s = rw (count-in symbols lengths picture n) (setWhere-ext n _ _ (λ k l. rw (size-in symbols lengths picture n k l)))
 
-  -- the test of rule k in `extended`
-  pub goes-in : (h s c k : ℕ) {t : Bool} → k < n → h < getD lengths k 0 → Joins picture s h k (getD symbols (mostSymbols * k + h) 0) c t
+  -- the test of rule k in `extended_word`, where it is bit b of the word w
+  pub goes-in : (h s c k w b : ℕ) {t : Bool} → has s k ≡ has w b → k < n → h < getD lengths k 0 → Joins picture w h b (getD symbols (mostSymbols * k + h) 0) c t
       → goesOn (rulesIn symbols lengths picture n) h s c k ≡ t
   unfolding fitsAt
-  goes-in h s c k l i j =
-      rw (size-in symbols lengths picture n k l, symbol-in symbols lengths picture n k h l i, lt-ltb h (getD lengths k 0) i) (sym (j symbols lengths n))
+  goes-in h s c k w b e l i j =
+      rw (size-in symbols lengths picture n k l, symbol-in symbols lengths picture n k h l i, lt-ltb h (getD lengths k 0) i, e) (sym (j symbols lengths n))
 
   pub stops-in : (h s c k : ℕ) → k < n → getD lengths k 0 ≤ h → goesOn (rulesIn symbols lengths picture n) h s c k ≡ false
   unfolding fitsAt
   stops-in h s c k l i = rw (size-in symbols lengths picture n k l, le-ltb h (getD lengths k 0) i)
 
-  pub onward-in : {m x : ℕ} (h s c : ℕ) → m ≡ n → x ≡ setWhere m (goesOn (rulesIn symbols lengths picture n) h s c) → x ≡ nextLive (rulesIn symbols lengths picture n) h s c
+  pub onward-in : {x : ℕ} (h s c : ℕ) → x ≡ setWhere n (goesOn (rulesIn symbols lengths picture n) h s c) → x ≡ nextLive (rulesIn symbols lengths picture n) h s c
   unfolding nextLive
-  onward-in h s c e q = q ∙ rw (e, count-in symbols lengths picture n)
+  onward-in h s c q = q ∙ rw (count-in symbols lengths picture n)
 
 -- ---- lists
 

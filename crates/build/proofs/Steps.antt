@@ -1,19 +1,23 @@
 -- The steps of a build's course as the code takes them, and what they keep. Assumes nothing.
-use mathlib.Core.Path.{_≡_, refl, sym, subst, _∙_}
+use mathlib.Core.Path.{_≡_, refl, subst, _∙_}
 use mathlib.Core.Logic.{_≢_}
+use mathlib.Core.Bool.{Bool, _&&_}
 use mathlib.Core.List.{List}
-use Prim.Native.Nat.{ℕ, _+_, _≤_, _<_}
+use Prim.Native.Nat.{ℕ, suc, _+_, _*_, _≤_, _<_}
 use native.Mathlib.Nat.{le-refl, le-trans, lt-of-lt-of-le}
 use native.Mathlib.Omega.{arith}
 use native.Mathlib.Decide.{decLt}
-use lib.Bits.{bitOr}
-use lib.ListN.{length, getD, set, length-set}
+use lib.Dec.{eqb}
+use lib.ListN.{length, getD, set, take, drop, length-set, length-take, length-drop}
 use lib.Seq.{getD-set-same, getD-set-other}
+use borrow.Author.Tests.{eq-eqb}
+use Rattle.sets.specs.Sets.{setOf}
 use Rattle.sets.specs.Table.{rowWords, rulesAt}
-use Rattle.sets.proofs.Table.{rules-word}
+use Rattle.sets.proofs.Table.{rules-part, rules-words, rules-same}
+use Rattle.sets.proofs.Writing.{Writing}
 use Rattle.meaning.specs.Rules.{Rules}
-use Rattle.meaning.specs.Step.{nextLive, finished}
-use Rattle.build.specs.Course.{Others, others, numberAt, Stored, NoKey, Room, Rising, InHand, RowOf, there, made, Place, root, none, some, onward, Filling, begin, next, RowFilled, whole}
+use Rattle.meaning.specs.Step.{finished}
+use Rattle.build.specs.Course.{Others, numberAt, Stored, Room, Rising, InHand, RowOf, there, made, Place, root, none, some, onward, Filling, begin, next, RowFilled, whole}
 use Rattle.build.specs.declared.Filled.the-variants as filled
 use Rattle.build.specs.declared.Placed.{Placed}
 use Rattle.build.specs.declared.Placed.the-variants as placed
@@ -32,14 +36,21 @@ module _ (n v : ℕ) (xs : List ℕ) (room : n < length xs) where
     past = λ i l. other i (λ e. omega arith);
   }
 
-  -- a row's set is one word
-  pub stored-set : Stored rowWords rulesAt n v xs (set xs n v)
-  stored-set = record {
-    long = length-set xs n v;
-    here = rules-word (set xs n v) n ∙ getD-set-same xs n v 0 room;
-    kept = λ i l. rules-word (set xs n v) i ∙ other i (λ e. omega arith) ∙ sym (rules-word xs i);
-    past = λ i l. other i (λ e. omega arith);
-  }
+-- the words of a set, written in row n
+pub stored-words : {n : ℕ} {xs ys : List ℕ} (ws : List ℕ) → length ws ≡ rowWords → Writing (λ j. getD ws j 0) xs (rowWords * n) rowWords ys → Stored rowWords rulesAt n (setOf ws) xs ys
+stored-words {n} {xs} {ys} ws e w = record {
+  long = w .long;
+  here = rules-words ys ws n e (w .done);
+  kept = λ i l. rules-same ys xs i (λ j h. w .before (rowWords * i + j) (omega arith));
+  past = λ i l. w .after i (omega arith);
+}
+
+-- whether a row's words are those of a set
+pub same-row : {t : Bool} {b m : ℕ} (xs ws : List ℕ) (i : ℕ) → t ≡ (eqb (length (take m (drop b xs))) (length ws) && eqb (setOf (take m (drop b xs))) (setOf ws))
+    → b ≡ rowWords * i → m ≡ rowWords → rowWords * suc i ≤ length xs → length ws ≡ rowWords → t ≡ eqb (rulesAt xs i) (setOf ws)
+same-row {b = b} {m} xs ws i e p q room n =
+    let long : length (take m (drop b xs)) ≡ length ws = rw (length-take, length-drop, p, q, n) (omega arith) in
+    e ∙ rw (eq-eqb _ _ long, p, q, rules-part xs i)
 
 -- what holds of the rows below n, and of the new one, holds of the rows below n + 1
 pub stored-all : {w n v : ℕ} {read : List ℕ → ℕ → ℕ} {xs ys : List ℕ} (P : ℕ → ℕ → Type 0) → Stored w read n v xs ys → ((i : ℕ) → i < n → P i (read xs i)) → P n v
@@ -47,20 +58,16 @@ pub stored-all : {w n v : ℕ} {read : List ℕ → ℕ → ℕ} {xs ys : List �
 stored-all {n = n} P st old new i l =
     elim (decLt i n) [ yes h ↦ rw (st .kept i h) (old i h) | no g ↦ let e : i ≡ n = omega arith in rw (e, st .here) new ]
 
-pub made-with : {e lent n h l f : ℕ} {t : Others} {o d : ℕ} → Room lent n t → o ≡ bitOr d (getD (t .out) f 0) → d ≡ e → NoKey t h l f n → n < lent
-    → RowOf e lent n h l f t (others (set (t .fall) n f) (set (t .held) n h) (set (t .live) n l) (set (t .out) n o)) (placed.Entry n (n + 1))
-made-with {e} {lent} {n} {h} {l} {f} {t} {o} {d} room q p new less =
-    let w : bitOr e (rulesAt (t .out) f) ≡ o = rw (rules-word (t .out) f, ← p) (sym q) in
-    made {u = others (set (t .fall) n f) (set (t .held) n h) (set (t .live) n l) (set (t .out) n o)} new less (record {
-      fall-put = stored-number n f (t .fall) (omega (arith, room .fall-room));
-      held-put = stored-number n h (t .held) (omega (arith, room .held-room));
-      live-put = stored-set n l (t .live) (omega (arith, room .live-room));
-      out-put = rw w (stored-set n o (t .out) (omega (arith, room .out-room)));
-    })
-
--- what goes on, by the word that the code reads
-pub onward-word : (r : Rules) (t : Others) (s c : ℕ) → nextLive r (getD (t .held) s 0) (getD (t .live) s 0) c ≡ onward r t s c
-onward-word r t s c = rw (rules-word (t .live) s)
+-- room for one row more
+pub room-next : {lent n : ℕ} {t : Others} → Room lent n t → n < lent → Room (suc n) (suc n) t
+room-next room h = record {
+  used = omega arith;
+  few = omega (arith, room .few);
+  fall-room = omega (arith, room .fall-room);
+  held-room = omega (arith, room .held-room);
+  live-room = omega (arith, room .live-room);
+  out-room = omega (arith, room .out-room);
+}
 
 pub some-with : {r : Rules} {lent s c v n : ℕ} {t u : Others} {x : Placed} {l e : ℕ} → l ≡ onward r t s c → e ≡ finished r (getD (t .held) s 0 + 1) l → l ≢ 0
     → RowOf e lent n (getD (t .held) s 0 + 1) l v t u x → Place r lent s c v n t u x

@@ -14,7 +14,7 @@ use Rattle.rows.specs.Rows.{MoreThan}
 use Rattle.rows.proofs.Rows.{root as root-row}
 use Rattle.rows.proofs.Build.{length-snoc}
 use Rattle.sets.specs.Table.{rowWords, rulesAt}
-use Rattle.sets.proofs.Table.{rules-word}
+use Rattle.sets.proofs.Table.{rules-none}
 use Rattle.meaning.specs.Rules.{Rules}
 use Rattle.meaning.specs.Standing.{Same}
 use Rattle.meaning.specs.Tables.{gotoAt, ZeroFrom, Tables}
@@ -192,7 +192,7 @@ module _ {r : Rules} {lent : ℕ} {goto₀ : List ℕ} {t₀ : Others} (small : 
     count = refl;
     is =
         built-start r (gotoAt goto₀) (columnsOf t₀) (blanks .fall 0 (omega arith)) (blanks .held 0 (omega arith))
-        (rules-word (t₀ .live) 0 ∙ blanks .live 0 (omega arith)) (rules-word (t₀ .out) 0 ∙ blanks .out 0 (omega arith));
+        (rules-none (t₀ .live) 0 (λ j h. blanks .live (rowWords * 0 + j) (omega arith))) (rules-none (t₀ .out) 0 (λ j h. blanks .out (rowWords * 0 + j) (omega arith)));
     goto-blank = λ i l. blank i (omega arith);
     blanks = record {
       fall = λ i l. blanks .fall i (omega arith);

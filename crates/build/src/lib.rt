@@ -4,18 +4,22 @@ use book::Answer;
 use book::Book;
 use book::Pictures;
 use book::Refusal;
+use sets::Set;
+use sets::WORDS;
 ghost use mathlib.Core.Path.{_≡_};
-ghost use Prim.Native.Nat.{ℕ, _+_, _*_, _<_, _≤_, min};
+ghost use Prim.Native.Nat.{ℕ, suc, _+_, _*_, _%_, _<_, _≤_, min};
 ghost use lib.ListN.{length, getD};
+ghost use Rattle.sets.specs.Sets.{setOf, wordWhere};
 ghost use Rattle.sets.specs.Table.{rowWords, rulesAt};
 ghost use mathlib.Core.Bool.{_&&_};
+ghost use lib.Bits.{bitOr};
 ghost use lib.Dec.{eqb};
-ghost use Rattle.meaning.specs.Step.{nextLive};
+ghost use Rattle.meaning.specs.Step.{goesOn, nextLive};
 ghost use Rattle.book.specs.Limits.{mostRows};
 ghost use Rattle.book.specs.Meant.{rulesIn, rulesHeld};
 ghost use Rattle.build.specs.Lent.{lentOf};
-ghost use Rattle.build.specs.Sets.{Within, Joins, endedIn};
-ghost use Rattle.build.specs.Course.{Leads, Found, Rising, chainOf, chainAt, Chains, Descends, Room, InHand, RowOf, Place, RowFilled, Sane, RowBuilt, AllFilled, Makes, zeroOthers, others};
+ghost use Rattle.build.specs.Sets.{Within, Joins, IsWord, endsIn, endedIn};
+ghost use Rattle.build.specs.Course.{Stored, Added, Leads, Found, Rising, chainOf, chainAt, Chains, Descends, Room, InHand, RowOf, Place, RowFilled, Sane, RowBuilt, AllFilled, Makes, zeroOthers, others};
 ghost use Rattle.build.specs.Promise.{numberOf, valueOf, five, zeros, Promise};
 ghost use Rattle.build.specs.declared.Placed.the-variants.{Entry};
 ghost use Rattle.build.specs.declared.Filled.the-variants.{Rows as Whole};
@@ -77,64 +81,126 @@ fn joins(pictures: &Pictures, live: u64, held: usize, k: u32, symbol: u16, byte:
     book::fits(pictures, byte, symbol)
 }
 
-// The rules that go on with the byte, from a row with this held length and live set.
+fn least(a: usize, b: usize) -> usize
+    ensures { λ r. ⌜ r ≡ min a b ⌝ }
+{
+    if a < b { a } else { b }
+}
+
+// Word i of what `extended` answers, where `live` is word i of the live set.
+fn extended_word(
+    symbols: &[u16; Book::PLACES],
+    lengths: &[u8; Book::RULES],
+    pictures: &Pictures,
+    rules: usize,
+    held: usize,
+    i: usize,
+    live: u64,
+    byte: u8,
+) -> u64
+    requires { ⌜ Within (now lengths) rules × (64 * i < rules) ⌝ }
+    ensures { λ r. ⌜ ((s : ℕ) → IsWord s i live → r ≡ wordWhere rules (goesOn (rulesIn (now (symbols .entry)) (now (lengths .entry)) (now (pictures .entry)) rules) held s byte) i) ⌝ }
+{
+    let base = 64 * i;
+    let many = least(64, rules - base);
+    let mut set: u64 = 0;
+    let mut bit: usize = 0;
+    while bit < many {
+        let k = base + bit;
+        if held < lengths[k] as usize {
+            let symbol = symbols[Book::SYMBOLS * k + held];
+            if joins(pictures, live, held, bit as u32, symbol, byte) {
+                set = sets::with(set, bit as u32);
+            }
+        }
+        bit += 1;
+    }
+    set
+}
+
+// The rules that go on with the byte, from a row with this held length and live set. Words past the last rule are empty.
 fn extended(
     symbols: &[u16; Book::PLACES],
     lengths: &[u8; Book::RULES],
     pictures: &Pictures,
     rules: usize,
     held: usize,
-    live: u64,
+    live: &[u64],
     byte: u8,
-) -> u64
-    requires { ⌜ Within (now lengths) rules ⌝ }
-    ensures { λ r. ⌜ r ≡ nextLive (rulesIn (now (symbols .entry)) (now (lengths .entry)) (now (pictures .entry)) rules) held live byte ⌝ }
+) -> Set
+    requires { ⌜ Within (now lengths) rules × (length (now live) ≡ rowWords) ⌝ }
+    ensures { λ r. ⌜ (setOf r ≡ nextLive (rulesIn (now (symbols .entry)) (now (lengths .entry)) (now (pictures .entry)) rules) held (setOf (now (live .entry))) byte) × (length r ≡ rowWords) ⌝ }
 {
-    let mut set: u64 = 0;
-    let mut k: usize = 0;
-    while k < rules {
-        if held < lengths[k] as usize {
-            let symbol = symbols[Book::SYMBOLS * k + held];
-            if joins(pictures, live, held, k as u32, symbol, byte) {
-                set = sets::with(set, k as u32);
-            }
-        }
-        k += 1;
+    let mut set = sets::none();
+    let mut i: usize = 0;
+    while 64 * i < rules {
+        set[i] = extended_word(symbols, lengths, pictures, rules, held, i, live[i], byte);
+        i += 1;
     }
     set
 }
 
-// The rules of the set that have just `held` symbols.
-fn ended(lengths: &[u8; Book::RULES], rules: usize, held: usize, set: u64) -> u64
-    requires { ⌜ Within (now lengths) rules ⌝ }
-    ensures { λ r. ⌜ r ≡ endedIn (now (lengths .entry)) rules held set ⌝ }
+// Word i of what `ended` answers, where `set` is word i of the set.
+fn ended_word(lengths: &[u8; Book::RULES], rules: usize, held: usize, i: usize, set: u64) -> u64
+    requires { ⌜ Within (now lengths) rules × (64 * i < rules) ⌝ }
+    ensures { λ r. ⌜ ((s : ℕ) → IsWord s i set → r ≡ wordWhere rules (endsIn (now (lengths .entry)) held s) i) ⌝ }
 {
+    let base = 64 * i;
+    let many = least(64, rules - base);
     let mut some: u64 = 0;
-    let mut k: usize = 0;
-    while k < rules {
-        if lengths[k] as usize == held {
-            if sets::has(set, k as u32) {
-                some = sets::with(some, k as u32);
+    let mut bit: usize = 0;
+    while bit < many {
+        if lengths[base + bit] as usize == held {
+            if sets::has(set, bit as u32) {
+                some = sets::with(some, bit as u32);
             }
         }
-        k += 1;
+        bit += 1;
     }
     some
 }
 
-// The chain of the rows with this fall and live set: both count, so that a chain is short where many rows have one fall or one live set.
-fn chain(f: u16, l: u64) -> usize
-    ensures { λ r. ⌜ (r ≡ chainOf f l) × (r < mostRows) ⌝ }
+// The rules of the set that have just `held` symbols.
+fn ended(lengths: &[u8; Book::RULES], rules: usize, held: usize, set: &[u64]) -> Set
+    requires { ⌜ Within (now lengths) rules × (length (now set) ≡ rowWords) ⌝ }
+    ensures { λ r. ⌜ (setOf r ≡ endedIn (now (lengths .entry)) rules held (setOf (now (set .entry)))) × (length r ≡ rowWords) ⌝ }
 {
-    (f as usize + (l % 4093) as usize) % Book::ROWS
+    let mut some = sets::none();
+    let mut i: usize = 0;
+    while 64 * i < rules {
+        some[i] = ended_word(lengths, rules, held, i, set[i]);
+        i += 1;
+    }
+    some
+}
+
+// The remainder of a set, as one number, by 4,093: the words are its digits to the base 2 ^ 64, which leaves 3,888.
+fn remainder(set: &[u64]) -> usize
+    ensures { λ r. ⌜ r ≡ setOf (now (set .entry)) % 4093 ⌝ }
+{
+    let mut rest: u64 = 0;
+    let mut left = set.len();
+    while left != 0 {
+        left -= 1;
+        rest = (3888 * rest + set[left] % 4093) % 4093;
+    }
+    rest as usize
+}
+
+// The chain of the rows with this fall and live set: both count, so that a chain is short where many rows have one fall or one live set.
+fn chain(f: u16, l: &[u64]) -> usize
+    ensures { λ r. ⌜ (r ≡ chainOf f (setOf (now (l .entry)))) × (r < mostRows) ⌝ }
+{
+    (f as usize + remainder(l)) % Book::ROWS
 }
 
 // Whether row i has this live set and this fall.
-fn is_key(fall: &[u16], live: &[u64], i: usize, l: u64, f: u16) -> bool
-    requires { ⌜ (i < length (now fall)) × (rowWords * i < length (now live)) ⌝ }
-    ensures { λ r. ⌜ r ≡ (eqb (rulesAt (now (live .entry)) i) l && eqb (getD (now (fall .entry)) i 0) f) ⌝ }
+fn is_key(fall: &[u16], live: &[u64], i: usize, l: &[u64], f: u16) -> bool
+    requires { ⌜ (i < length (now fall)) × (rowWords * suc i ≤ length (now live)) × (length (now l) ≡ rowWords) ⌝ }
+    ensures { λ r. ⌜ r ≡ (eqb (rulesAt (now (live .entry)) i) (setOf (now (l .entry))) && eqb (getD (now (fall .entry)) i 0) f) ⌝ }
 {
-    if live[i] != l {
+    let start = WORDS * i;
+    if !sets::same(&live[start..start + WORDS], l) {
         return false;
     }
     fall[i] == f
@@ -149,11 +215,11 @@ fn find_row(
     older: &[u16; Book::ROWS],
     n: usize,
     h: u8,
-    l: u64,
+    l: &[u64],
     f: u16,
 ) -> usize
-    requires { ⌜ (n ≤ length (now fall)) × (n ≤ length (now held)) × (rowWords * n ≤ length (now live)) × (n ≤ mostRows) ⌝ ∗ ⌜ Rising (now held) n h ⌝ ∗ ⌜ Chains (now first) (now older) (chainAt (now fall) (now live)) n ⌝ }
-    ensures { λ r. ⌜ Found (now (held .entry)) (now (live .entry)) (now (fall .entry)) n h l f r ⌝ }
+    requires { ⌜ (n ≤ length (now fall)) × (n ≤ length (now held)) × (rowWords * n ≤ length (now live)) × (n ≤ mostRows) × (length (now l) ≡ rowWords) ⌝ ∗ ⌜ Rising (now held) n h ⌝ ∗ ⌜ Chains (now first) (now older) (chainAt (now fall) (now live)) n ⌝ }
+    ensures { λ r. ⌜ Found (now (held .entry)) (now (live .entry)) (now (fall .entry)) n h (setOf (now (l .entry))) f r ⌝ }
 {
     let mut i = first[chain(f, l)] as usize;
     while i != 0 {
@@ -194,6 +260,60 @@ fn via_row(goto: &[u16], fall: &[u16], row: u16) -> [u16; 256]
     via
 }
 
+// The set in row n of a table.
+fn store(table: &mut [u64], n: usize, set: &[u64])
+    requires { ⌜ (rowWords * suc n ≤ length (now table)) × (length (now set) ≡ rowWords) ⌝ }
+    ensures { λ _. ⌜ Stored rowWords rulesAt n (setOf (now (set .entry))) (now (table .entry)) (now (table .exit)) ⌝ }
+{
+    let start = WORDS * n;
+    let mut i: usize = 0;
+    while i < WORDS {
+        table[start + i] = set[i];
+        i += 1;
+    }
+}
+
+// What ends in a row with this held length and live set: the rules of the set that have so many symbols, and what ends in the row that it falls to.
+fn ends(
+    lengths: &[u8; Book::RULES],
+    rules: usize,
+    held: usize,
+    set: &[u64],
+    out: &[u64],
+    below: usize,
+) -> Set
+    requires { ⌜ Within (now lengths) rules × (length (now set) ≡ rowWords) × (below < mostRows) × (rowWords * suc below ≤ length (now out)) ⌝ }
+    ensures { λ r. ⌜ (setOf r ≡ bitOr (endedIn (now (lengths .entry)) rules held (setOf (now (set .entry)))) (rulesAt (now (out .entry)) below)) × (length r ≡ rowWords) ⌝ }
+{
+    let mut all = ended(lengths, rules, held, set);
+    let start = WORDS * below;
+    sets::unite(&mut all, &out[start..start + WORDS]);
+    all
+}
+
+// Row n, with these three numbers and what ends in it.
+fn add_row(
+    lengths: &[u8; Book::RULES],
+    rules: usize,
+    fall: &mut [u16],
+    held: &mut [u8],
+    live: &mut [u64],
+    out: &mut [u64],
+    n: usize,
+    h: u8,
+    l: &[u64],
+    f: u16,
+)
+    requires { ⌜ Within (now lengths) rules × (length (now l) ≡ rowWords) × (f < n) ⌝ ∗ ⌜ Room (suc n) (suc n) (others (now fall) (now held) (now live) (now out)) ⌝ }
+    ensures { λ _. ⌜ Added (endedIn (now (lengths .entry)) rules h (setOf (now (l .entry)))) n h (setOf (now (l .entry))) f (others (now (fall .entry)) (now (held .entry)) (now (live .entry)) (now (out .entry))) (others (now (fall .exit)) (now (held .exit)) (now (live .exit)) (now (out .exit))) ⌝ }
+{
+    let all = ends(lengths, rules, h as usize, l, out, f as usize);
+    fall[n] = f;
+    held[n] = h;
+    store(live, n, l);
+    store(out, n, &all);
+}
+
 // The row with these three numbers: one there is, or a new one at n.
 fn row_of(
     lengths: &[u8; Book::RULES],
@@ -207,11 +327,11 @@ fn row_of(
     lent: usize,
     n: usize,
     h: u8,
-    l: u64,
+    l: &[u64],
     f: u16,
 ) -> Placed
-    requires { ⌜ Within (now lengths) rules ⌝ ∗ ⌜ Room lent n (others (now fall) (now held) (now live) (now out)) ⌝ ∗ ⌜ f < n ⌝ ∗ ⌜ Rising (now held) n h ⌝ ∗ ⌜ Chains (now first) (now older) (chainAt (now fall) (now live)) n ⌝ }
-    ensures { λ r. ⌜ RowOf (endedIn (now (lengths .entry)) rules h l) lent n h l f (others (now (fall .entry)) (now (held .entry)) (now (live .entry)) (now (out .entry))) (others (now (fall .exit)) (now (held .exit)) (now (live .exit)) (now (out .exit))) r ⌝ ∗ ⌜ ((e m : ℕ) → r ≡ Entry e m → Chains (now (first .exit)) (now (older .exit)) (chainAt (now (fall .exit)) (now (live .exit))) m) ⌝ }
+    requires { ⌜ Within (now lengths) rules × (length (now l) ≡ rowWords) ⌝ ∗ ⌜ Room lent n (others (now fall) (now held) (now live) (now out)) ⌝ ∗ ⌜ f < n ⌝ ∗ ⌜ Rising (now held) n h ⌝ ∗ ⌜ Chains (now first) (now older) (chainAt (now fall) (now live)) n ⌝ }
+    ensures { λ r. ⌜ RowOf (endedIn (now (lengths .entry)) rules h (setOf (now (l .entry)))) lent n h (setOf (now (l .entry))) f (others (now (fall .entry)) (now (held .entry)) (now (live .entry)) (now (out .entry))) (others (now (fall .exit)) (now (held .exit)) (now (live .exit)) (now (out .exit))) r ⌝ ∗ ⌜ ((e m : ℕ) → r ≡ Entry e m → Chains (now (first .exit)) (now (older .exit)) (chainAt (now (fall .exit)) (now (live .exit))) m) ⌝ }
 {
     let i = find_row(fall, held, live, first, older, n, h, l, f);
     if i < n {
@@ -220,11 +340,7 @@ fn row_of(
     if lent <= n {
         return Placed::Full;
     }
-    let below = out[f as usize];
-    fall[n] = f;
-    held[n] = h;
-    live[n] = l;
-    out[n] = sets::union(ended(lengths, rules, h as usize, l), below);
+    add_row(lengths, rules, fall, held, live, out, n, h, l, f);
     let g = chain(f, l);
     older[n] = first[g];
     first[g] = n as u16;
@@ -253,8 +369,17 @@ fn place(
     ensures { λ r. ⌜ Place (rulesIn (now (symbols .entry)) (now (lengths .entry)) (now (pictures .entry)) rules) lent s byte via n (others (now (fall .entry)) (now (held .entry)) (now (live .entry)) (now (out .entry))) (others (now (fall .exit)) (now (held .exit)) (now (live .exit)) (now (out .exit))) r ⌝ ∗ ⌜ ((e m : ℕ) → r ≡ Entry e m → Chains (now (first .exit)) (now (older .exit)) (chainAt (now (fall .exit)) (now (live .exit))) m) ⌝ }
 {
     let h = held[s];
-    let l = extended(symbols, lengths, pictures, rules, h as usize, live[s], byte);
-    if l == 0 {
+    let start = WORDS * s;
+    let l = extended(
+        symbols,
+        lengths,
+        pictures,
+        rules,
+        h as usize,
+        &live[start..start + WORDS],
+        byte,
+    );
+    if sets::is_empty(&l) {
         if s == 0 {
             return Placed::Entry(0, n);
         }
@@ -272,7 +397,7 @@ fn place(
         lent,
         n,
         h + 1,
-        l,
+        &l,
         via,
     )
 }
@@ -374,17 +499,11 @@ fn zero_all(goto: &mut [u16], fall: &mut [u16], held: &mut [u8], live: &mut [u64
     zero64(out);
 }
 
-fn least(a: usize, b: usize) -> usize
-    ensures { λ r. ⌜ r ≡ min a b ⌝ }
-{
-    if a < b { a } else { b }
-}
-
 // The rows that tables of these lengths lend.
 pub fn rows_lent(goto: usize, fall: usize, held: usize, live: usize, out: usize) -> usize
     ensures { λ r. ⌜ r ≡ lentOf goto fall held live out ⌝ }
 {
-    let sets = least(live, least(out, Book::ROWS));
+    let sets = least(live / WORDS, least(out / WORDS, Book::ROWS));
     least(goto / 256, least(fall, least(held, sets)))
 }
 

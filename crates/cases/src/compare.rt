@@ -1,5 +1,6 @@
 // Reads and builds compared: the answer, and every place of every buffer lent.
 use crate::fitting;
+use crate::fitting::Fits;
 use crate::fitting::ended;
 use crate::fitting::level;
 use crate::fitting::longest;
@@ -19,6 +20,7 @@ use crate::report::count;
 use crate::report::draw;
 use crate::report::expect;
 use crate::standing;
+use crate::standing::Levels;
 use crate::standing::end_of;
 use crate::standing::start_of;
 use crate::tables::rows_lent;
@@ -27,7 +29,7 @@ use crate::walks;
 use build::Built;
 
 // The book in the first `size` bytes.
-pub fn book(run: &mut [u64; 256], bytes: &[u8; 512], size: usize) {
+pub fn book(run: &mut [u64; 256], bytes: &[u8; 2560], size: usize) {
     part(run, bytes, size);
 }
 
@@ -38,7 +40,7 @@ fn part(run: &mut [u64; 256], bytes: &[u8], size: usize) {
 
 fn whole(run: &mut [u64; 256], bytes: &[u8]) {
     let mut pictures = [0usize; 64];
-    let mut rules = [0usize; 256];
+    let mut rules = [0usize; 512];
     let judged = judge::judge(bytes, &mut pictures, &mut rules);
     read(run, bytes, &pictures, &rules, judged);
     if fitting::is_short(&rules, judged.rules) {
@@ -51,12 +53,15 @@ fn read(
     run: &mut [u64; 256],
     bytes: &[u8],
     pictures: &[usize; 64],
-    rules: &[usize; 256],
+    rules: &[usize; 512],
     judged: Judged,
 ) {
     let got = book::read(bytes);
     let answer = got.answer;
     count(run, plus(report::READ, judged.number), 1);
+    if 64 < judged.rules {
+        count(run, report::LARGE_SOUND, 1);
+    }
     if 0 < judged.sharing {
         count(run, report::SHARING, 1);
     }
@@ -72,18 +77,18 @@ fn read(
 // ---- a build
 
 // Lends room for some rows, in buffers of odd lengths, each entry 1.
-fn lend(run: &mut [u64; 256], bytes: &[u8], judged: Judged, fit: &[u64; 2064]) {
+fn lend(run: &mut [u64; 256], bytes: &[u8], judged: Judged, fit: &Fits) {
     let mut goto = [1u16; 16384];
     let mut fall = [1u16; 64];
     let mut held = [1u8; 64];
-    let mut live = [1u64; 64];
-    let mut out = [1u64; 64];
+    let mut live = [1u64; 256];
+    let mut out = [1u64; 256];
     let rows = rows_to_lend(run);
     let g = up_to(plus(256 * (rows % 64), draw(run, 600)), 16384);
     let f = up_to(plus(rows, draw(run, 3)), 64);
     let h = up_to(plus(rows, draw(run, 3)), 64);
-    let l = up_to(plus(rows, draw(run, 3)), 64);
-    let o = up_to(plus(rows, draw(run, 3)), 64);
+    let l = up_to(plus(4 * (rows % 64), draw(run, 12)), 256);
+    let o = up_to(plus(4 * (rows % 64), draw(run, 12)), 256);
     tables(
         run,
         bytes,
@@ -105,7 +110,7 @@ fn tables(
     run: &mut [u64; 256],
     bytes: &[u8],
     judged: Judged,
-    fit: &[u64; 2064],
+    fit: &Fits,
     goto: &mut [u16],
     fall: &mut [u16],
     held: &mut [u8],
@@ -127,14 +132,14 @@ fn sound(
     run: &mut [u64; 256],
     built: Built,
     room: usize,
-    fit: &[u64; 2064],
+    fit: &Fits,
     goto: &mut [u16],
     fall: &mut [u16],
     held: &[u8],
     live: &[u64],
     out: &mut [u64],
 ) {
-    let mut levels = [0u64; 512];
+    let mut levels = [0u64; 2048];
     let mut texts = [0u8; 1024];
     let rows = standing::rows_of(fit, &mut levels, &mut texts, room);
     if room < rows {
@@ -142,6 +147,9 @@ fn sound(
         all_are(run, goto, fall, held, live, out, 0);
     } else {
         answer(run, built, 0, rows);
+        if fitting::is_large(fit) {
+            count(run, report::LARGE_BUILT, 1);
+        }
         every_row(
             run,
             fit,
@@ -160,7 +168,7 @@ fn sound(
 
 fn searched(
     run: &mut [u64; 256],
-    fit: &[u64; 2064],
+    fit: &Fits,
     goto: &mut [u16],
     fall: &mut [u16],
     held: &[u8],
@@ -198,8 +206,8 @@ fn all_are(
 
 fn every_row(
     run: &mut [u64; 256],
-    fit: &[u64; 2064],
-    levels: &[u64; 512],
+    fit: &Fits,
+    levels: &Levels,
     texts: &mut [u8; 1024],
     rows: usize,
     goto: &[u16],
@@ -216,15 +224,15 @@ fn every_row(
     let past = all16(goto, 256 * (rows % 65536), 0) && all16(fall, rows, 0) && all8(held, rows, 0);
     expect(
         run,
-        past && all64(live, rows, 0) && all64(out, rows, 0),
+        past && all64(live, 4 * (rows % 65536), 0) && all64(out, 4 * (rows % 65536), 0),
         b"past the rows",
     );
 }
 
 fn numbers(
     run: &mut [u64; 256],
-    fit: &[u64; 2064],
-    levels: &[u64; 512],
+    fit: &Fits,
+    levels: &Levels,
     texts: &mut [u8; 1024],
     rows: usize,
     r: usize,
@@ -241,17 +249,15 @@ fn numbers(
     expect(run, is_row, b"goto");
 }
 
-fn sets(
-    run: &mut [u64; 256],
-    fit: &[u64; 2064],
-    texts: &[u8; 1024],
-    r: usize,
-    live: &[u64],
-    out: &[u64],
-) {
+fn sets(run: &mut [u64; 256], fit: &Fits, texts: &[u8; 1024], r: usize, live: &[u64], out: &[u64]) {
     let start = start_of(r);
     let end = end_of(texts, r);
-    let rules = level(fit, texts, start, end, longest(fit, texts, start, end, 9));
-    expect(run, at64(live, r) == rules, b"live");
-    expect(run, at64(out, r) == ended(fit, texts, start, end), b"out");
+    let length = longest(fit, texts, start, end, 9);
+    let ends = ended(fit, texts, start, end);
+    for w in 0..4usize {
+        let place = plus(4 * (r % 65536), w);
+        let rules = level(fit, w, texts, start, end, length);
+        expect(run, at64(live, place) == rules, b"live");
+        expect(run, at64(out, place) == at64(&ends, w), b"out");
+    }
 }

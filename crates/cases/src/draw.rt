@@ -3,6 +3,8 @@ use crate::leaf::above;
 use crate::leaf::at8;
 use crate::leaf::plus;
 use crate::leaf::put8;
+use crate::leaf::up_to;
+use crate::report;
 use crate::report::draw;
 use crate::report::go_on_from;
 use crate::report::letter;
@@ -17,14 +19,14 @@ pub struct Drawn {
     pub pictures: usize,
 }
 
-fn header(bytes: &mut [u8; 512], from: usize, tag: usize, size: usize) {
+fn header(bytes: &mut [u8; 2560], from: usize, tag: usize, size: usize) {
     put8(bytes, from, tag);
     put8(bytes, plus(from, 1), size / 256);
     put8(bytes, plus(from, 2), size);
 }
 
 // The picture of the letters chosen for it, or nothing where there is none.
-fn picture(bytes: &mut [u8; 512], drawn: Drawn, chosen: &[u8; 16], number: usize) -> Drawn {
+fn picture(bytes: &mut [u8; 2560], drawn: Drawn, chosen: &[u8; 16], number: usize) -> Drawn {
     let mut size = 0;
     for l in 0..5usize {
         if at8(chosen, plus(3 * l, number)) == 1 {
@@ -42,7 +44,7 @@ fn picture(bytes: &mut [u8; 512], drawn: Drawn, chosen: &[u8; 16], number: usize
     }
 }
 
-fn symbol(bytes: &mut [u8; 512], place: usize, run: &mut [u64; 256], pictures: usize) {
+fn symbol(bytes: &mut [u8; 2560], place: usize, run: &mut [u64; 256], pictures: usize) {
     if 0 < pictures && draw(run, 3) == 0 {
         put8(bytes, place, 1);
         put8(bytes, plus(place, 1), draw(run, pictures));
@@ -53,7 +55,13 @@ fn symbol(bytes: &mut [u8; 512], place: usize, run: &mut [u64; 256], pictures: u
 }
 
 // A rule of so many symbols. It has a sequence of its own: two rules of one sequence are equal, or one opens the other.
-fn rule(bytes: &mut [u8; 512], drawn: Drawn, run: &mut [u64; 256], own: u64, size: usize) -> Drawn {
+fn rule(
+    bytes: &mut [u8; 2560],
+    drawn: Drawn,
+    run: &mut [u64; 256],
+    own: u64,
+    size: usize,
+) -> Drawn {
     let seed = seed_of(run);
     restart(run, own);
     header(bytes, drawn.size, 0x52, plus(size, size));
@@ -65,7 +73,13 @@ fn rule(bytes: &mut [u8; 512], drawn: Drawn, run: &mut [u64; 256], own: u64, siz
     }
 }
 
-fn symbols(bytes: &mut [u8; 512], body: usize, run: &mut [u64; 256], pictures: usize, size: usize) {
+fn symbols(
+    bytes: &mut [u8; 2560],
+    body: usize,
+    run: &mut [u64; 256],
+    pictures: usize,
+    size: usize,
+) {
     for j in 0..size {
         symbol(bytes, plus(body, plus(j, j)), run, pictures);
     }
@@ -79,7 +93,7 @@ fn choices(chosen: &mut [u8; 16], run: &mut [u64; 256]) {
 }
 
 // A book of up to three pictures, which may share letters, with rules before and after them, and its length. It is sound, unless no rule came.
-pub fn book(bytes: &mut [u8; 512], run: &mut [u64; 256]) -> usize {
+pub fn book(bytes: &mut [u8; 2560], run: &mut [u64; 256]) -> usize {
     let pictures = draw(run, 4);
     let mut chosen = [0u8; 16];
     choices(&mut chosen, run);
@@ -114,7 +128,7 @@ fn other(own: u64, run: &mut [u64; 256]) -> u64 {
 // ---- books of digits
 
 // A picture more: the first so many hexadecimal digits.
-fn first_digits(bytes: &mut [u8; 512], drawn: Drawn, size: usize) -> Drawn {
+fn first_digits(bytes: &mut [u8; 2560], drawn: Drawn, size: usize) -> Drawn {
     header(bytes, drawn.size, 0x50, size);
     for i in 0..size {
         put8(
@@ -130,7 +144,7 @@ fn first_digits(bytes: &mut [u8; 512], drawn: Drawn, size: usize) -> Drawn {
 }
 
 // Decimal and hexadecimal digits as pictures, either of them first, then up to six rules; and its length.
-pub fn digits(bytes: &mut [u8; 512], run: &mut [u64; 256]) -> usize {
+pub fn digits(bytes: &mut [u8; 2560], run: &mut [u64; 256]) -> usize {
     let none = Drawn {
         size: 0,
         pictures: 0,
@@ -139,13 +153,13 @@ pub fn digits(bytes: &mut [u8; 512], run: &mut [u64; 256]) -> usize {
     let one = first_digits(bytes, none, plus(10, more));
     let both = first_digits(bytes, one, above(16, more));
     let count = plus(1, draw(run, 6));
-    many_rules(bytes, both, run, count, 5).size
+    many_rules(bytes, both, run, count, 5, 1000).size
 }
 
 // ---- books at the limits
 
 // So many pictures of one byte each, from the byte a on.
-fn many_pictures(bytes: &mut [u8; 512], count: usize) -> Drawn {
+fn many_pictures(bytes: &mut [u8; 2560], count: usize) -> Drawn {
     let mut size = 0;
     for p in 0..count {
         header(bytes, size, 0x50, 1);
@@ -158,26 +172,45 @@ fn many_pictures(bytes: &mut [u8; 512], count: usize) -> Drawn {
     }
 }
 
-// So many rules more, of up to `most` symbols.
+// So many rules more, of up to `most` symbols and of so many different sequences.
 fn many_rules(
-    bytes: &mut [u8; 512],
+    bytes: &mut [u8; 2560],
     before: Drawn,
     run: &mut [u64; 256],
     count: usize,
     most: usize,
+    kinds: usize,
 ) -> Drawn {
     let mut drawn = before;
     for _ in 0..count {
-        let own = draw(run, 1000) as u64;
+        let own = draw(run, kinds) as u64;
         let size = plus(1, draw(run, most));
         drawn = rule(bytes, drawn, run, own, size);
     }
     drawn
 }
 
-// Near or past one of the limits: 16 pictures, 64 rules, 64 symbols.
-pub fn limits(bytes: &mut [u8; 512], run: &mut [u64; 256]) -> usize {
-    let kind = draw(run, 3);
+// So many rules, all short, and up to two pictures before them: few symbols make few rows, in which many rules are live and end. The rules of the
+// first words may be much alike, so that some rows differ in the later words alone.
+pub fn large(bytes: &mut [u8; 2560], run: &mut [u64; 256], count: usize) -> usize {
+    report::count(run, report::LARGE, 1);
+    let mut chosen = [0u8; 16];
+    choices(&mut chosen, run);
+    let none = Drawn {
+        size: 0,
+        pictures: 0,
+    };
+    let one = picture(bytes, none, &chosen, 0);
+    let both = picture(bytes, one, &chosen, 1);
+    let most = plus(1, draw(run, 5) / 2);
+    let alike = 64 * (draw(run, 4) % 4);
+    let first = many_rules(bytes, both, run, up_to(alike, count), most, 1);
+    many_rules(bytes, first, run, above(count, alike), most, 1000).size
+}
+
+// Near or past one of the limits: 16 pictures, 64 symbols.
+pub fn limits(bytes: &mut [u8; 2560], run: &mut [u64; 256]) -> usize {
+    let kind = draw(run, 2);
     let count = draw(run, 3);
     let none = Drawn {
         size: 0,
@@ -186,8 +219,6 @@ pub fn limits(bytes: &mut [u8; 512], run: &mut [u64; 256]) -> usize {
     if kind == 0 {
         let pictures = many_pictures(bytes, plus(15, count));
         rule(bytes, pictures, run, 1, 4).size
-    } else if kind == 1 {
-        many_rules(bytes, none, run, plus(63, count), 1).size
     } else {
         rule(bytes, none, run, 1, plus(63, count)).size
     }
@@ -200,7 +231,7 @@ fn odd_byte(run: &mut [u64; 256]) -> usize {
 }
 
 // A byte put in at `place`.
-fn insert(bytes: &mut [u8; 512], size: usize, place: usize, byte: usize) {
+fn insert(bytes: &mut [u8; 2560], size: usize, place: usize, byte: usize) {
     for i in 0..above(size, place) {
         let from = above(above(size, i), 1);
         let moved = at8(bytes, from);
@@ -209,14 +240,14 @@ fn insert(bytes: &mut [u8; 512], size: usize, place: usize, byte: usize) {
     put8(bytes, place, byte);
 }
 
-fn odd_body(bytes: &mut [u8; 512], body: usize, size: usize, run: &mut [u64; 256]) {
+fn odd_body(bytes: &mut [u8; 2560], body: usize, size: usize, run: &mut [u64; 256]) {
     for i in 0..size {
         put8(bytes, plus(body, i), odd_byte(run));
     }
 }
 
 // A field more, of a short and odd body.
-fn odd_field(bytes: &mut [u8; 512], size: usize, run: &mut [u64; 256]) -> usize {
+fn odd_field(bytes: &mut [u8; 2560], size: usize, run: &mut [u64; 256]) -> usize {
     let body = draw(run, 5);
     header(
         bytes,
@@ -229,7 +260,7 @@ fn odd_field(bytes: &mut [u8; 512], size: usize, run: &mut [u64; 256]) -> usize 
 }
 
 // A rule more, in which some pairs are bytes and pictures and some are neither.
-fn odd_rule(bytes: &mut [u8; 512], size: usize, run: &mut [u64; 256]) -> usize {
+fn odd_rule(bytes: &mut [u8; 2560], size: usize, run: &mut [u64; 256]) -> usize {
     let pairs = draw(run, 7);
     header(bytes, size, 0x52, plus(pairs, pairs));
     for j in 0..pairs {
@@ -245,7 +276,7 @@ fn odd_rule(bytes: &mut [u8; 512], size: usize, run: &mut [u64; 256]) -> usize {
 }
 
 // A book with a byte changed, cut short, with a byte, a field or a rule more; and its length.
-pub fn spoil(bytes: &mut [u8; 512], size: usize, run: &mut [u64; 256]) -> usize {
+pub fn spoil(bytes: &mut [u8; 2560], size: usize, run: &mut [u64; 256]) -> usize {
     let place = draw(run, size);
     match draw(run, 5) {
         0 => {

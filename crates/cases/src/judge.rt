@@ -16,7 +16,7 @@ pub struct Judged {
 }
 
 // Place 2p of `pictures` is where picture p's body begins, the next one its size; so for the rules.
-pub fn judge(bytes: &[u8], pictures: &mut [usize; 64], rules: &mut [usize; 256]) -> Judged {
+pub fn judge(bytes: &[u8], pictures: &mut [usize; 64], rules: &mut [usize; 512]) -> Judged {
     let mut from = 0;
     let mut p = 0;
     let mut k = 0;
@@ -150,7 +150,7 @@ pub fn is_member(bytes: &[u8], byte: usize, pictures: &[usize], q: usize) -> boo
 }
 
 fn rule_fault(bytes: &[u8], from: usize, size: usize, p: usize, k: usize) -> Judged {
-    if k == 64 {
+    if k == 256 {
         return refused(8, from);
     }
     if 128 < size {

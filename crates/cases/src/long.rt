@@ -1,6 +1,7 @@
 // The longest text that is walked or tallied and one byte more, and the largest count and one more. The book is the rule `a`, `b`; the text is a, over
 // and over: as a profile it is one line that has no count.
 use crate::fitting;
+use crate::fitting::Fits;
 use crate::judge;
 use crate::leaf::up_to;
 use crate::report;
@@ -23,14 +24,14 @@ fn lent(run: &mut [u64; 256], text: &[u8; 1048577]) {
 
 fn built(run: &mut [u64; 256], text: &[u8], bytes: &[u8]) {
     let mut pictures = [0usize; 64];
-    let mut rules = [0usize; 256];
+    let mut rules = [0usize; 512];
     let judged = judge::judge(bytes, &mut pictures, &mut rules);
     let fit = fitting::fits_of(bytes, &pictures, &rules, judged.rules);
     let mut goto = [0u16; 1024];
     let mut fall = [0u16; 4];
     let mut held = [0u8; 4];
-    let mut live = [0u64; 4];
-    let mut out = [0u64; 4];
+    let mut live = [0u64; 16];
+    let mut out = [0u64; 16];
     let rows = build::build(bytes, &mut goto, &mut fall, &mut held, &mut live, &mut out).value();
     both(run, &fit, &goto, &fall, &held, &live, &out, rows, text);
     counts(run, &goto, &fall, &held, &live, &out, rows);
@@ -38,12 +39,12 @@ fn built(run: &mut [u64; 256], text: &[u8], bytes: &[u8]) {
 
 fn both(
     run: &mut [u64; 256],
-    fit: &[u64; 2064],
+    fit: &Fits,
     goto: &[u16; 1024],
     fall: &[u16; 4],
     held: &[u8; 4],
-    live: &[u64; 4],
-    out: &[u64; 4],
+    live: &[u64; 16],
+    out: &[u64; 16],
     rows: usize,
     text: &[u8],
 ) {
@@ -64,7 +65,7 @@ fn both(
 
 fn sized(
     run: &mut [u64; 256],
-    fit: &[u64; 2064],
+    fit: &Fits,
     goto: &[u16],
     fall: &[u16],
     held: &[u8],
@@ -75,7 +76,7 @@ fn sized(
     size: usize,
 ) {
     let end = up_to(size, text.len());
-    let mut pairs = [0u32; 4096];
+    let mut pairs = [0u32; 8192];
     let found = fitting::search(fit, text, 0, end, &mut pairs);
     walk_text(
         run,
@@ -91,7 +92,7 @@ fn sized(
         &pairs,
         report::LONG,
     );
-    let sums = [0u64; 64];
+    let sums = [0u64; 256];
     tallied(
         run,
         goto,
@@ -117,7 +118,7 @@ fn counts(
     out: &[u64],
     rows: usize,
 ) {
-    let mut sums = [0u64; 64];
+    let mut sums = [0u64; 256];
     sums[0] = 4294967295;
     tallied(
         run,
@@ -157,7 +158,7 @@ fn tallied(
     rows: usize,
     text: &[u8],
     end: usize,
-    sums: &[u64; 64],
+    sums: &[u64; 256],
     kind: usize,
 ) {
     let none = tables::refused(0, 0);
@@ -173,7 +174,7 @@ fn tallied(
         end,
         none,
         sums,
-        64,
+        256,
         kind,
     );
 }

@@ -32,9 +32,11 @@ fn main() {
 // The book of a number, sound or spoiled or near a limit.
 fn one(run: &mut [u64; 256], number: u64) {
     report::begin(run, number);
-    let mut bytes = [0u8; 512];
+    let mut bytes = [0u8; 2560];
     let kind = report::draw(run, 8);
-    let mut size = if kind == 7 {
+    let mut size = if number % 32 == 0 {
+        draw::large(&mut bytes, run, many(number / 32))
+    } else if kind == 7 {
         draw::limits(&mut bytes, run)
     } else if kind == 6 {
         report::count(run, report::DIGITS, 1);
@@ -42,10 +44,23 @@ fn one(run: &mut [u64; 256], number: u64) {
     } else {
         draw::book(&mut bytes, run)
     };
-    if kind < 3 {
+    let spoiled = if number % 32 == 0 { 1 } else { 3 };
+    if kind < spoiled {
         size = draw::spoil(&mut bytes, size, run);
     }
     compare::book(run, &bytes, size);
+}
+
+// How many rules a large book has: as many as the four words of a set hold and one more or less, one more than one or three words hold, and 190.
+fn many(turn: u64) -> usize {
+    match turn % 6 {
+        0 => 256,
+        1 => 65,
+        2 => 193,
+        3 => 190,
+        4 => 255,
+        _ => 257,
+    }
 }
 
 fn tell(run: &[u64; 256]) {
@@ -66,6 +81,9 @@ fn tell(run: &[u64; 256]) {
         report::SEVERAL,
     );
     say_numbers(run, b"books built, by number", report::BUILT);
+    say(run, b"books drawn of more than 64 rules", report::LARGE);
+    say(run, b"of these sound", report::LARGE_SOUND);
+    say(run, b"of these built", report::LARGE_BUILT);
     say(run, b"rows compared", report::ROWS);
     say_numbers(run, b"texts walked, by number", report::WALKED);
     say_numbers(run, b"long texts walked, by number", report::LONG);

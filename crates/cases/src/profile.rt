@@ -1,5 +1,6 @@
 // The second tally, by the paper's words: first the lines of a folded profile, then their frames, then what each frame adds.
 use crate::fitting;
+use crate::fitting::Fits;
 use crate::fitting::Found;
 use crate::leaf::above;
 use crate::leaf::at8;
@@ -96,7 +97,7 @@ pub fn refusal(lent: usize, n: usize, profile: &[u8], size: usize, places: usize
         tables::refused(11, 1048576)
     } else if n == 0 || lent < n {
         tables::refused(12, n)
-    } else if places < 64 {
+    } else if places < 256 {
         tables::refused(16, places)
     } else if bad < size {
         tables::refused(15, bad)
@@ -159,8 +160,8 @@ fn part(frames: &[u64; 1024], number: usize, which: usize) -> u64 {
 
 // ---- sums
 
-// Adds the count for each report.
-fn add(sums: &mut [u64; 64], pairs: &[u32; 4096], reports: usize, count: u64) {
+// Adds the count for each report. The pairs have room for every rule at each end of a frame, which is shorter than 16 bytes.
+fn add(sums: &mut [u64; 256], pairs: &[u32; 8192], reports: usize, count: u64) {
     for i in 0..reports {
         let k = at32(pairs, plus(plus(i, i), 1)) as usize;
         let sum = std::num::wrapping_add_u64(at64(sums, k), count);
@@ -169,16 +170,16 @@ fn add(sums: &mut [u64; 64], pairs: &[u32; 4096], reports: usize, count: u64) {
 }
 
 pub fn by_rules(
-    fit: &[u64; 2064],
+    fit: &Fits,
     profile: &[u8],
     frames: &[u64; 1024],
     number: usize,
-    sums: &mut [u64; 64],
+    sums: &mut [u64; 256],
 ) {
+    let mut pairs = [0u32; 8192];
     for i in 0..number {
         let from = part(frames, i, 0) as usize;
         let to = part(frames, i, 1) as usize;
-        let mut pairs = [0u32; 4096];
         let found = fitting::search(fit, profile, from, to, &mut pairs);
         add(sums, &pairs, found.value, part(frames, i, 2));
     }
@@ -194,10 +195,22 @@ pub fn by_tables(
     profile: &[u8],
     frames: &[u64; 1024],
     number: usize,
-    sums: &mut [u64; 64],
+    sums: &mut [u64; 256],
 ) -> Found {
+    let mut pairs = [0u32; 8192];
     for i in 0..number {
-        let found = frame(goto, fall, held, out, n, profile, frames, i, sums);
+        let found = frame(
+            goto,
+            fall,
+            held,
+            out,
+            n,
+            profile,
+            frames,
+            i,
+            &mut pairs,
+            sums,
+        );
         if found.number != 0 {
             return found;
         }
@@ -214,14 +227,14 @@ fn frame(
     profile: &[u8],
     frames: &[u64; 1024],
     i: usize,
-    sums: &mut [u64; 64],
+    pairs: &mut [u32; 8192],
+    sums: &mut [u64; 256],
 ) -> Found {
     let from = part(frames, i, 0) as usize;
     let to = part(frames, i, 1) as usize;
-    let mut pairs = [0u32; 4096];
-    let found = tables::run(goto, fall, held, out, n, profile, from, to, &mut pairs);
+    let found = tables::run(goto, fall, held, out, n, profile, from, to, pairs);
     if found.number == 0 {
-        add(sums, &pairs, found.value, part(frames, i, 2));
+        add(sums, pairs, found.value, part(frames, i, 2));
     }
     found
 }

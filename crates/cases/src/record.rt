@@ -12,7 +12,7 @@ use book::Book;
 pub fn is_record(
     bytes: &[u8],
     pictures: &[usize; 64],
-    rules: &[usize; 256],
+    rules: &[usize; 512],
     judged: Judged,
     got: Book,
 ) -> bool {
@@ -27,8 +27,8 @@ pub fn is_record(
 }
 
 // Each symbol as 256 times its kind plus its second byte, and 0 in the places that no rule uses.
-fn is_symbols(bytes: &[u8], rules: &[usize; 256], count: usize, symbols: &[u16; 4096]) -> bool {
-    for i in 0..4096usize {
+fn is_symbols(bytes: &[u8], rules: &[usize; 512], count: usize, symbols: &[u16; 16384]) -> bool {
+    for i in 0..16384usize {
         if medium(symbols[i]) != symbol(bytes, rules, count, i / 64, i % 64) {
             return false;
         }
@@ -36,7 +36,7 @@ fn is_symbols(bytes: &[u8], rules: &[usize; 256], count: usize, symbols: &[u16; 
     true
 }
 
-fn symbol(bytes: &[u8], rules: &[usize; 256], count: usize, k: usize, j: usize) -> usize {
+fn symbol(bytes: &[u8], rules: &[usize; 512], count: usize, k: usize, j: usize) -> usize {
     if count <= k || size_of(rules, k) <= plus(j, j) {
         return 0;
     }
@@ -44,8 +44,8 @@ fn symbol(bytes: &[u8], rules: &[usize; 256], count: usize, k: usize, j: usize) 
     256 * at8(bytes, place) + at8(bytes, plus(place, 1))
 }
 
-fn is_lengths(rules: &[usize; 256], count: usize, lengths: &[u8; 64]) -> bool {
-    for k in 0..64usize {
+fn is_lengths(rules: &[usize; 512], count: usize, lengths: &[u8; 256]) -> bool {
+    for k in 0..256usize {
         let meant = if k < count { size_of(rules, k) / 2 } else { 0 };
         if small(lengths[k]) != meant {
             return false;

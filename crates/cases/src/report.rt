@@ -42,6 +42,13 @@ pub const SHARING: usize = 250;
 
 pub const DIGITS: usize = 251;
 
+// Books of more than 64 rules: drawn, sound, and built within the rows lent.
+pub const LARGE: usize = 252;
+
+pub const LARGE_SOUND: usize = 253;
+
+pub const LARGE_BUILT: usize = 254;
+
 // Books refused for a rule with several symbols at fault.
 pub const SEVERAL: usize = 255;
 

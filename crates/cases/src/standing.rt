@@ -1,8 +1,12 @@
 // The second rows: the different standings of all texts, each with its least text, found by making each known least text one byte longer.
-// Row r's standing is eight sets of rules in `levels`, from 8 * r on. Its least text stands in `texts` from 16 * r + 1 on, after its size.
+// Row r's standing is eight sets of rules in `levels`, from 32 * r on: eight words with the first 64 rules, then eight with the next 64, and so on.
+// Its least text stands in `texts` from 16 * r + 1 on, after its size.
+use crate::fitting::Fits;
+use crate::fitting::is_unlike;
 use crate::fitting::level;
 use crate::fitting::longest;
 use crate::fitting::place;
+use crate::fitting::word;
 use crate::leaf::above;
 use crate::leaf::at8;
 use crate::leaf::at16;
@@ -11,17 +15,19 @@ use crate::leaf::plus;
 use crate::leaf::put8;
 use crate::leaf::put64;
 
+pub type Levels = [u64; 2048];
+
 // The standing of the text from `start` to `end`.
-fn standing(fit: &[u64; 2064], text: &[u8], start: usize, end: usize) -> [u64; 8] {
-    let mut now = [0u64; 8];
-    for j in 0..8 {
-        now[j] = level(fit, text, start, end, j + 1);
+fn standing(fit: &Fits, text: &[u8], start: usize, end: usize) -> [u64; 32] {
+    let mut now = [0u64; 32];
+    for i in 0..32 {
+        now[i] = level(fit, i / 8, text, start, end, i % 8 + 1);
     }
     now
 }
 
 // The row with this standing, or as many as there are.
-fn row_of(levels: &[u64; 512], rows: usize, now: &[u64; 8]) -> usize {
+fn row_of(levels: &Levels, rows: usize, now: &[u64; 32]) -> usize {
     for r in 0..rows {
         if is_same(levels, r, now) {
             return r;
@@ -30,17 +36,17 @@ fn row_of(levels: &[u64; 512], rows: usize, now: &[u64; 8]) -> usize {
     rows
 }
 
-fn is_same(levels: &[u64; 512], r: usize, now: &[u64; 8]) -> bool {
-    for j in 0..8 {
-        if at64(levels, plus(times8(r), j)) != now[j] {
+fn is_same(levels: &Levels, r: usize, now: &[u64; 32]) -> bool {
+    for i in 0..32 {
+        if at64(levels, plus(times32(r), i)) != now[i] {
             return false;
         }
     }
     true
 }
 
-fn times8(r: usize) -> usize {
-    8 * (r % 65536)
+fn times32(r: usize) -> usize {
+    32 * (r % 65536)
 }
 
 pub fn start_of(r: usize) -> usize {
@@ -51,26 +57,8 @@ pub fn end_of(texts: &[u8; 1024], r: usize) -> usize {
     plus(start_of(r), at8(texts, 16 * (r % 65536)))
 }
 
-// Whether two neighbouring bytes fit the same symbols: then they lead to the same standings.
-fn is_like_last(fit: &[u64; 2064], byte: usize) -> bool {
-    if byte == 0 || 255 < byte {
-        return false;
-    }
-    for j in 0..8 {
-        if at64(fit, place(byte, j)) != at64(fit, place(byte - 1, j)) {
-            return false;
-        }
-    }
-    true
-}
-
 // Finds the rows, and answers how many there are, or one more than `room`.
-pub fn rows_of(
-    fit: &[u64; 2064],
-    levels: &mut [u64; 512],
-    texts: &mut [u8; 1024],
-    room: usize,
-) -> usize {
+pub fn rows_of(fit: &Fits, levels: &mut Levels, texts: &mut [u8; 1024], room: usize) -> usize {
     let mut rows = 1;
     for r in 0..room {
         if r < rows && rows <= room {
@@ -82,8 +70,8 @@ pub fn rows_of(
 
 // Row r's least text and one byte more, for each byte: a standing not seen yet is the next row.
 fn spread(
-    fit: &[u64; 2064],
-    levels: &mut [u64; 512],
+    fit: &Fits,
+    levels: &mut Levels,
     texts: &mut [u8; 1024],
     r: usize,
     known: usize,
@@ -93,7 +81,7 @@ fn spread(
     let start = start_of(r);
     let end = end_of(texts, r);
     for byte in 0..256 {
-        if rows <= room && !is_like_last(fit, byte) {
+        if rows <= room && is_unlike(fit, byte) {
             put8(texts, end, byte);
             let now = standing(fit, texts, start, plus(end, 1));
             if row_of(levels, rows, &now) == rows {
@@ -106,7 +94,7 @@ fn spread(
 }
 
 // Row `to`: row r's least text and the byte that stands after it.
-fn keep(levels: &mut [u64; 512], texts: &mut [u8; 1024], to: usize, r: usize, now: &[u64; 8]) {
+fn keep(levels: &mut Levels, texts: &mut [u8; 1024], to: usize, r: usize, now: &[u64; 32]) {
     for i in 0..15 {
         let byte = at8(texts, plus(start_of(r), i));
         put8(texts, plus(start_of(to), i), byte);
@@ -116,42 +104,48 @@ fn keep(levels: &mut [u64; 512], texts: &mut [u8; 1024], to: usize, r: usize, no
     put_standing(levels, to, now);
 }
 
-fn put_standing(levels: &mut [u64; 512], to: usize, now: &[u64; 8]) {
-    for j in 0..8 {
-        put64(levels, plus(times8(to), j), now[j]);
+fn put_standing(levels: &mut Levels, to: usize, now: &[u64; 32]) {
+    for i in 0..32 {
+        put64(levels, plus(times32(to), i), now[i]);
     }
 }
 
 // ---- what the tables are to hold
 
 // The row whose standing is that of row r without its pairs of the held length.
-pub fn fall_of(
-    fit: &[u64; 2064],
-    levels: &[u64; 512],
-    texts: &[u8; 1024],
-    rows: usize,
-    r: usize,
-) -> usize {
+pub fn fall_of(fit: &Fits, levels: &Levels, texts: &[u8; 1024], rows: usize, r: usize) -> usize {
     let start = start_of(r);
     let end = end_of(texts, r);
     let held = longest(fit, texts, start, end, 9);
     let mut now = standing(fit, texts, start, end);
-    put64(&mut now, above(held, 1), 0);
+    drop_level(&mut now, held);
     row_of(levels, rows, &now)
 }
 
+fn drop_level(now: &mut [u64; 32], length: usize) {
+    for w in 0..4usize {
+        put64(now, plus(8 * w, above(length, 1)), 0);
+    }
+}
+
 // Whether some rule of row r that is matched for the held length has a next symbol that the byte fits.
-fn goes_on(fit: &[u64; 2064], texts: &[u8; 1024], r: usize, byte: usize) -> bool {
+fn goes_on(fit: &Fits, texts: &[u8; 1024], r: usize, byte: usize) -> bool {
     let start = start_of(r);
     let end = end_of(texts, r);
     let held = longest(fit, texts, start, end, 9);
-    held < 8 && level(fit, texts, start, end, held) & at64(fit, place(byte, held)) != 0
+    for w in 0..4usize {
+        let rules = level(fit, w, texts, start, end, held);
+        if held < 8 && rules & word(fit, w, place(byte, held)) != 0 {
+            return true;
+        }
+    }
+    false
 }
 
 // The entry of goto in row r at the byte.
 fn entry(
-    fit: &[u64; 2064],
-    levels: &[u64; 512],
+    fit: &Fits,
+    levels: &Levels,
     texts: &mut [u8; 1024],
     rows: usize,
     r: usize,
@@ -168,8 +162,8 @@ fn entry(
 
 // Whether goto has these entries in row r.
 pub fn is_row(
-    fit: &[u64; 2064],
-    levels: &[u64; 512],
+    fit: &Fits,
+    levels: &Levels,
     texts: &mut [u8; 1024],
     rows: usize,
     r: usize,
@@ -177,7 +171,7 @@ pub fn is_row(
 ) -> bool {
     let mut meant = 0;
     for byte in 0..256 {
-        if !is_like_last(fit, byte) {
+        if is_unlike(fit, byte) {
             meant = entry(fit, levels, texts, rows, r, byte);
         }
         if at16(goto, plus(256 * (r % 65536), byte)) != meant {

@@ -4,7 +4,6 @@ use crate::fitting::list;
 use crate::leaf::above;
 use crate::leaf::at8;
 use crate::leaf::at16;
-use crate::leaf::at64;
 use crate::leaf::plus;
 
 fn least(a: usize, b: usize) -> usize {
@@ -13,7 +12,10 @@ fn least(a: usize, b: usize) -> usize {
 
 pub fn rows_lent(goto: &[u16], fall: &[u16], held: &[u8], live: &[u64], out: &[u64]) -> usize {
     let numbers = least(least(goto.len() / 256, 4096), fall.len());
-    least(least(numbers, held.len()), least(live.len(), out.len()))
+    least(
+        least(numbers, held.len()),
+        least(live.len() / 4, out.len() / 4),
+    )
 }
 
 pub fn refused(number: usize, value: usize) -> Found {
@@ -65,7 +67,7 @@ pub fn run(
     text: &[u8],
     start: usize,
     end: usize,
-    pairs: &mut [u32; 4096],
+    pairs: &mut [u32; 8192],
 ) -> Found {
     let mut row = 0;
     let mut falls = 0;
@@ -77,7 +79,13 @@ pub fn run(
         }
         row = moved.row;
         falls = plus(falls, moved.falls);
-        reports = list(at64(out, row), plus(above(i, start), 1), pairs, reports);
+        reports = list(
+            out,
+            4 * (row % 65536),
+            plus(above(i, start), 1),
+            pairs,
+            reports,
+        );
     }
     Found {
         number: 0,
@@ -97,7 +105,7 @@ pub fn walk(
     n: usize,
     bytes: &[u8],
     size: usize,
-    pairs: &mut [u32; 4096],
+    pairs: &mut [u32; 8192],
 ) -> Found {
     if n == 0 || rows_lent(goto, fall, held, live, out) < n {
         return refused(12, n);

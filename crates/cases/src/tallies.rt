@@ -1,4 +1,5 @@
 // Tallies over built tables and over damaged ones.
+use crate::fitting::Fits;
 use crate::fitting::Found;
 use crate::folded;
 use crate::leaf::at64;
@@ -12,7 +13,7 @@ use crate::report::expect;
 use crate::tables;
 
 // The places of the greatest sums buffer, and what they hold before.
-const PLACES: usize = 70;
+const PLACES: usize = 262;
 
 const OLD: u64 = 9;
 
@@ -29,7 +30,7 @@ pub fn tally_text(
     bytes: &[u8],
     size: usize,
     found: Found,
-    sums: &[u64; 64],
+    sums: &[u64; 256],
     lent_places: usize,
     kind: usize,
 ) {
@@ -37,7 +38,7 @@ pub fn tally_text(
     let lent = tables::rows_lent(goto, fall, held, live, out);
     let meant = either(profile::refusal(lent, n, bytes, size, places), found);
     let end = up_to(size, bytes.len());
-    let mut buffer = [OLD; 70];
+    let mut buffer = [OLD; 262];
     let tallied = tally::tally(
         goto,
         fall,
@@ -58,12 +59,12 @@ pub fn tally_text(
     );
 }
 
-// Mostly 64 or more.
+// Mostly 256 or more, and often just about so many.
 fn places_for(run: &mut [u64; 256]) -> usize {
-    if draw(run, 8) == 0 {
-        draw(run, 64)
-    } else {
-        plus(64, draw(run, 7))
+    match draw(run, 16) {
+        0 => draw(run, 256),
+        1 => plus(250, draw(run, 8)),
+        _ => plus(256, draw(run, 7)),
     }
 }
 
@@ -78,10 +79,10 @@ fn either(refusal: Found, found: Found) -> Found {
     }
 }
 
-// The sums in the first 64 places of an accepted tally, and what was there before in all others.
-fn is_summed(is_accepted: bool, sums: &[u64; 64], buffer: &[u64; 70]) -> bool {
-    for i in 0..70usize {
-        let meant = if is_accepted && i < 64 {
+// The sums in the first 256 places of an accepted tally, and what was there before in all others.
+fn is_summed(is_accepted: bool, sums: &[u64; 256], buffer: &[u64; 262]) -> bool {
+    for i in 0..262usize {
+        let meant = if is_accepted && i < 256 {
             at64(sums, i)
         } else {
             OLD
@@ -95,7 +96,7 @@ fn is_summed(is_accepted: bool, sums: &[u64; 64], buffer: &[u64; 70]) -> bool {
 
 pub fn built(
     run: &mut [u64; 256],
-    fit: &[u64; 2064],
+    fit: &Fits,
     goto: &[u16],
     fall: &[u16],
     held: &[u8],
@@ -110,7 +111,7 @@ pub fn built(
 
 fn over_rules(
     run: &mut [u64; 256],
-    fit: &[u64; 2064],
+    fit: &Fits,
     goto: &[u16],
     fall: &[u16],
     held: &[u8],
@@ -122,7 +123,7 @@ fn over_rules(
 ) {
     let mut frames = [0u64; 1024];
     let number = profile::frames_of(bytes, size, &mut frames);
-    let mut sums = [0u64; 64];
+    let mut sums = [0u64; 256];
     profile::by_rules(fit, bytes, &frames, number, &mut sums);
     let places = places_for(run);
     tally_text(
@@ -169,7 +170,7 @@ fn over_tables(
 ) {
     let mut frames = [0u64; 1024];
     let number = profile::frames_of(bytes, size, &mut frames);
-    let mut sums = [0u64; 64];
+    let mut sums = [0u64; 256];
     let found = profile::by_tables(goto, fall, held, out, n, bytes, &frames, number, &mut sums);
     let places = places_for(run);
     tally_text(

@@ -1,6 +1,7 @@
 // Walks over built tables and over damaged ones.
 use crate::draw::text;
 use crate::fitting;
+use crate::fitting::Fits;
 use crate::fitting::Found;
 use crate::leaf::above;
 use crate::leaf::at16;
@@ -22,7 +23,7 @@ use walk::Walked;
 ghost use Prim.Native.Nat.{_≤_};
 
 // The places of the greatest report buffer, and what they hold before.
-const PLACES: usize = 512;
+const PLACES: usize = 2048;
 
 const OLD: u32 = 7;
 
@@ -40,13 +41,13 @@ pub fn walk_text(
     bytes: &[u8],
     size: usize,
     found: Found,
-    pairs: &[u32; 4096],
+    pairs: &[u32; 8192],
     kind: usize,
 ) {
     let places = places_for(run, found);
     let meant = answer_for(found, size, places);
     let end = up_to(size, bytes.len());
-    let mut reports = [OLD; 512];
+    let mut reports = [OLD; 2048];
     let walked = walk::walk(
         goto,
         fall,
@@ -63,7 +64,7 @@ pub fn walk_text(
 
 // Mostly more than are needed, and often just as many or one less.
 fn places_for(run: &mut [u64; 256], found: Found) -> usize
-    ensures { λ r. ⌜ r ≤ 512 ⌝ }
+    ensures { λ r. ⌜ r ≤ 2048 ⌝ }
 {
     let needed = plus(found.value, found.value);
     match draw(run, 4) {
@@ -88,8 +89,8 @@ fn judge(
     run: &mut [u64; 256],
     walked: Walked,
     meant: Found,
-    pairs: &[u32; 4096],
-    reports: &[u32; 512],
+    pairs: &[u32; 8192],
+    reports: &[u32; 2048],
 ) {
     expect(run, walked.number() == meant.number, b"number of a walk");
     expect(run, walked.value() == meant.value, b"value of a walk");
@@ -109,7 +110,7 @@ fn judge(
 }
 
 // The pairs in the places before `written`, and what was there before in the others.
-fn is_written(pairs: &[u32; 4096], reports: &[u32; 512], written: usize) -> bool {
+fn is_written(pairs: &[u32; 8192], reports: &[u32; 2048], written: usize) -> bool {
     for i in 0..PLACES {
         let meant = if i < written { at32(pairs, i) } else { OLD };
         if reports[i] != meant {
@@ -123,7 +124,7 @@ fn is_written(pairs: &[u32; 4096], reports: &[u32; 512], written: usize) -> bool
 
 pub fn texts(
     run: &mut [u64; 256],
-    fit: &[u64; 2064],
+    fit: &Fits,
     goto: &[u16],
     fall: &[u16],
     held: &[u8],
@@ -140,7 +141,7 @@ pub fn texts(
 
 fn over_rules(
     run: &mut [u64; 256],
-    fit: &[u64; 2064],
+    fit: &Fits,
     goto: &[u16],
     fall: &[u16],
     held: &[u8],
@@ -150,7 +151,7 @@ fn over_rules(
     bytes: &[u8; 32],
     size: usize,
 ) {
-    let mut pairs = [0u32; 4096];
+    let mut pairs = [0u32; 8192];
     let found = fitting::search(fit, bytes, 0, size, &mut pairs);
     walk_text(
         run,
@@ -255,7 +256,7 @@ fn damaged_out(
     out: &mut [u64],
     rows: usize,
 ) {
-    let place = draw(run, rows);
+    let place = draw(run, 4 * (rows % 64));
     let old = at64(out, place);
     put64(out, place, report::seed_of(run));
     over(run, goto, fall, held, live, out, rows);
@@ -275,8 +276,8 @@ fn cut_buffers(
     let g = up_to(plus(256 * near(run, rows), draw(run, 256)), goto.len());
     let f = up_to(near(run, rows), fall.len());
     let h = up_to(near(run, rows), held.len());
-    let l = up_to(near(run, rows), live.len());
-    let o = up_to(near(run, rows), out.len());
+    let l = up_to(plus(4 * near(run, rows), draw(run, 4)), live.len());
+    let o = up_to(plus(4 * near(run, rows), draw(run, 4)), out.len());
     over(
         run,
         &goto[0..g],
@@ -320,7 +321,7 @@ fn over_tables(
     bytes: &[u8; 32],
     size: usize,
 ) {
-    let mut pairs = [0u32; 4096];
+    let mut pairs = [0u32; 8192];
     let found = tables::walk(goto, fall, held, live, out, n, bytes, size, &mut pairs);
     walk_text(
         run,

@@ -8,14 +8,16 @@ ghost use lib.ListN.{length};
 ghost use Rattle.inputs.specs.Inputs.{Fits, BothFit};
 
 // The room for a book and for a text: one byte more than each may have, so that an input which fills it is too long.
-pub const BOOK_ROOM: usize = 16384 + 1;
+pub const BOOK_ROOM: usize = 49152 + 1;
 
 pub const TEXT_ROOM: usize = 32768 + 1;
 
-// The rows that a program lends, and the goto entries that these are.
+// The rows that a program lends, and the goto entries and the words of a table of sets that these are.
 pub const ROWS: usize = 120;
 
 pub const ENTRIES: usize = 256 * ROWS;
+
+pub const WORDS: usize = 4 * ROWS;
 
 // What reading an input came to: all its bytes, so many; or it cannot be read or is too long.
 enum Input {

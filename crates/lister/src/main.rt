@@ -22,8 +22,8 @@ fn list(book: &[u8], text: &[u8]) {
     let mut goto = [0u16; inputs::ENTRIES];
     let mut fall = [0u16; inputs::ROWS];
     let mut held = [0u8; inputs::ROWS];
-    let mut live = [0u64; inputs::ROWS];
-    let mut out = [0u64; inputs::ROWS];
+    let mut live = [0u64; inputs::WORDS];
+    let mut out = [0u64; inputs::WORDS];
     let built = build::build(book, &mut goto, &mut fall, &mut held, &mut live, &mut out);
     if inputs::say_built(built.number(), built.value()) {
         search(&goto, &fall, &held, &live, &out, built.value(), text);

@@ -4,6 +4,7 @@ use mathlib.Core.List.{List, [], _∷_}
 use mathlib.Core.Logic.{_≢_}
 use Prim.Native.Nat.{ℕ, _≤_}
 use lib.ListN.{length, take, drop, set, replicate}
+use Rattle.sets.specs.Table.{rowWords}
 use Rattle.meaning.specs.Tables.{Five}
 use Rattle.book.specs.Limits.{mostRules, mostRows}
 use Rattle.build.specs.Promise.{numberOf, valueOf, five, lent, zeroed, Promise}
@@ -58,7 +59,7 @@ cases =
     ∷ row 0 (97 ∷ []) (7 ∷ 7 ∷ []) 0 (0 ∷ 0 ∷ 0 ∷ []) (7 ∷ 7 ∷ [])
     ∷ row 65535 (97 ∷ []) (7 ∷ 7 ∷ []) 13 (0 ∷ []) (7 ∷ 7 ∷ [])
     -- 11: Y on aab1;ab 3
-    ∷ tally bytesY aab1-ab-3 0 0 (3 ∷ 0 ∷ 6 ∷ replicate 61 0)
+    ∷ tally bytesY aab1-ab-3 0 0 (3 ∷ 0 ∷ 6 ∷ replicate 253 0)
     -- 12: a 01
     ∷ refusal a-01 15 0
     ∷ []
@@ -94,10 +95,10 @@ pub record Refused (w : TallyCall) (number value : ℕ) : Type 0 where
 
 -- one row, with an entry at `a`
 abbrev pub lone : ℕ → Five
-lone e = five (set (replicate 256 0) 97 e) (0 ∷ []) (0 ∷ []) (0 ∷ []) (0 ∷ [])
+lone e = five (set (replicate 256 0) 97 e) (0 ∷ []) (0 ∷ []) (replicate rowWords 0) (replicate rowWords 0)
 
 -- A build: of all buffers lent and all that keeps the promise. A walk or a tally of a book: over whatever buffers a build of it left which gave 0, with the
--- value that it gave. A tally: with any sums buffer of at least 64 places; one that is refused for its profile, over any tables with some rows that are lent.
+-- value that it gave. A tally: with any sums buffer of at least 256 places; one that is refused for its profile, over any tables with some rows that are lent.
 abbrev pub Holds : Case → Type 0
 Holds (build bytes fewest most number value left) = (old b : Five) (x : Built) → fewest ≤ lent old → lent old ≤ most → Promise bytes old b x
     → Answered old b x number value left

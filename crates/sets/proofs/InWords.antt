@@ -1,15 +1,20 @@
 -- Laws of a set in words (`setOf` of `specs/Sets.antt`), for any number of them. Assumes nothing.
-use mathlib.Core.Path.{_≡_, sym, ap, ap₂, _∙_}
-use mathlib.Core.Bool.{_||_}
-use mathlib.Core.List.{List, [], _∷_, _++_, map}
-use Prim.Native.Nat.{ℕ, zero, suc, _+_, _*_, _/_, _%_, _^_, _<_}
-use native.Mathlib.Nat.{zero-add, add-zero, le-of-suc-le-suc}
+use mathlib.Core.Path.{_≡_, refl, sym, ap, ap₂, _∙_}
+use mathlib.Core.Bool.{Bool, false, _||_}
+use mathlib.Core.List.{List, [], _∷_, _++_, map, map-append, map-map, map-id}
+use Prim.Native.Nat.{ℕ, zero, suc, _+_, _-_, _*_, _/_, _%_, _^_, _≤_, _<_, min}
+use native.Mathlib.Nat.{zero-add, add-zero, add-assoc, le-of-suc-le-suc}
+use native.Mathlib.Decide.{decLt}
+use native.Mathlib.Numerals.{one-add, add-one}
 use native.Mathlib.Omega.{arith}
-use lib.Pow.{pow-pos, pow-lt, pow-add, high, shr-shr}
-use lib.Bits.{bitOr, block-half, block-odd, or-lt, or-block, or-zero-r}
-use lib.ListN.{length, getD, set, length-append, length-map}
-use Rattle.sets.specs.Sets.{has, those, members, setOf, membersOf}
-use Rattle.sets.proofs.Laws.{has-zero, has-suc, has-empty, has-or, same}
+use lib.Dec.{eqb}
+use lib.Pow.{pow-pos, pow-mono, high, shr-shr}
+use lib.Bits.{bitOr, block-half, block-odd, or-lt, or-zero-r}
+use lib.ListN.{length, getD, drop, length-append, length-map, List·getD-eq-default}
+use lib.Seq.{getD-drop, drop-cons}
+use borrow.Author.Tests.{eq-eqb, ne-eqb}
+use Rattle.sets.specs.Sets.{has, setWhere, those, members, setOf, wordWhere, united, membersOf}
+use Rattle.sets.proofs.Laws.{has-zero, has-suc, has-empty, has-above, has-in, has-or, setWhere-lt, same}
 use Rattle.sets.proofs.Members.{those-ext, those-shift, those-append}
 
 -- ---- a number above j bits
@@ -60,25 +65,136 @@ setOf-or us vs ws f g e =
     (λ k. has-setOf ws h k ∙ ap (λ w. has w (k % 64)) (e (k / 64)) ∙ has-or (getD us (k / 64) 0) (getD vs (k / 64) 0) (k % 64)
     ∙ sym (has-or (setOf us) (setOf vs) k ∙ ap₂ _||_ (has-setOf us f k) (has-setOf vs g k)))
 
--- a member put into its word
-pub setOf-with : (ws : List ℕ) → Words ws → (i k : ℕ) → i < length ws → k < 64
-    → setOf (set ws i (bitOr (getD ws i 0) (2 ^ k))) ≡ bitOr (setOf ws) (2 ^ (64 * i + k))
-unfolding setOf
-setOf-with [] f i k h l = absurd (omega arith)
-setOf-with (w ∷ ws) f zero k h l =
-    rw zero-add (sym (rw (zero-add, or-zero-r (setOf ws)) at (or-block 64 (setOf ws) 0 w (2 ^ k) (f 0) (pow-lt l))))
-setOf-with (w ∷ ws) f (suc i) k h l =
-    let e : 64 * suc i + k ≡ 64 * i + k + 64 = omega arith in
-    let b = or-block 64 (setOf ws) (2 ^ (64 * i + k)) w 0 (f 0) (pow-pos 64) in
-    rw (e, pow-add, setOf-with ws (λ j. f (suc j)) i k (le-of-suc-le-suc h) l) (sym (rw (add-zero, or-zero-r w) at b))
-
 -- the members, word by word
-pub membersOf-cons : (w : ℕ) (ws : List ℕ) → w < 2 ^ 64 → membersOf (w ∷ ws) ≡ members 64 w ++ map (λ k. 64 + k) (membersOf ws)
+membersOf-cons : (w : ℕ) (ws : List ℕ) → w < 2 ^ 64 → membersOf (w ∷ ws) ≡ members 64 w ++ map (λ k. 64 + k) (membersOf ws)
 unfolding membersOf setOf
 membersOf-cons w ws h =
     let e : 64 * suc (length ws) ≡ 64 + 64 * length ws = omega arith in
     rw e (members-cat 64 (64 * length ws) (setOf ws) w h)
 
 -- as many as in each word
-pub count-cons : (w : ℕ) (ws : List ℕ) → w < 2 ^ 64 → length (membersOf (w ∷ ws)) ≡ length (members 64 w) + length (membersOf ws)
+count-cons : (w : ℕ) (ws : List ℕ) → w < 2 ^ 64 → length (membersOf (w ∷ ws)) ≡ length (members 64 w) + length (membersOf ws)
 count-cons w ws h = simp (length-append, length-map) at (ap length (membersOf-cons w ws h))
+
+pub length-united : (us vs : List ℕ) → length (united us vs) ≡ length us
+unfolding united
+length-united [] vs = refl
+length-united (u ∷ us) vs = ap suc (length-united us (drop 1 vs))
+
+pub word-united : (us vs : List ℕ) (i : ℕ) → i < length us → getD (united us vs) i 0 ≡ bitOr (getD us i 0) (getD vs i 0)
+unfolding united
+word-united [] vs i h = absurd (omega arith)
+word-united (u ∷ us) vs zero h = refl
+word-united (u ∷ us) vs (suc i) h = word-united us (drop 1 vs) i (le-of-suc-le-suc h) ∙ ap (bitOr (getD us i 0)) (getD-drop 1 vs i 0 ∙ ap (λ j. getD vs j 0) (one-add i))
+
+pub setOf-united : (us vs : List ℕ) → Words us → Words vs → length vs ≤ length us → setOf (united us vs) ≡ bitOr (setOf us) (setOf vs)
+setOf-united us vs f g h = setOf-or us vs (united us vs) f g at
+  where
+    at : (i : ℕ) → getD (united us vs) i 0 ≡ bitOr (getD us i 0) (getD vs i 0)
+    at i =
+        elim (decLt i (length us)) [
+          | yes l ↦ word-united us vs i l
+          | no l ↦
+              let a : length us ≤ i = omega arith in
+              let b : length vs ≤ i = omega arith in
+              let c : length (united us vs) ≤ i = omega (arith, length-united us vs) in
+              rw (List·getD-eq-default us 0 a, List·getD-eq-default vs 0 b, List·getD-eq-default (united us vs) 0 c) (sym (or-zero-r 0))
+        ]
+
+-- ---- words, one by one
+
+-- words that are the same at each place make one set, where a missing word is 0
+pub setOf-ext : (us vs : List ℕ) → ((i : ℕ) → getD us i 0 ≡ getD vs i 0) → setOf us ≡ setOf vs
+unfolding setOf
+setOf-ext [] [] e = refl
+setOf-ext [] (v ∷ vs) e = omega (arith, e 0, setOf-ext [] vs (λ i. e (suc i)))
+setOf-ext (u ∷ us) [] e = omega (arith, e 0, setOf-ext us [] (λ i. e (suc i)))
+setOf-ext (u ∷ us) (v ∷ vs) e = ap₂ (λ s w. s * 2 ^ 64 + w) (setOf-ext us vs (λ i. e (suc i))) (e 0)
+
+-- the set of a test, made word by word
+pub setOf-where : (n : ℕ) (p : ℕ → Bool) (ws : List ℕ) → n ≤ 64 * length ws → ((i : ℕ) → i < length ws → getD ws i 0 ≡ wordWhere n p i) → setOf ws ≡ setWhere n p
+setOf-where n p ws room e = same (setOf ws) (setWhere n p) (λ k. has-setOf ws words k ∙ at k (k / 64) (k % 64) (omega arith) (omega arith))
+  where
+    small : (i : ℕ) → wordWhere n p i < 2 ^ 64
+    small i =
+        let l = setWhere-lt (min 64 (n - 64 * i)) (λ k. p (64 * i + k)) in
+        let m : 2 ^ min 64 (n - 64 * i) ≤ 2 ^ 64 = pow-mono {j = 64} (omega arith) in
+        omega arith
+
+    words : Words ws
+    words i =
+        elim (decLt i (length ws)) [
+          | yes h ↦ rw (e i h) (small i)
+          | no g ↦ let l : length ws ≤ i = omega arith in rw (List·getD-eq-default ws 0 l) (pow-pos 64)
+        ]
+
+    past : (k : ℕ) → n ≤ k → has (setWhere n p) k ≡ false
+    past k h = has-above n k (setWhere-lt n p) h
+
+    at : (k i j : ℕ) → k ≡ 64 * i + j → j < 64 → has (getD ws i 0) j ≡ has (setWhere n p) k
+    at k i j q l =
+        elim (decLt i (length ws)) [
+          | yes h ↦ ap (λ w. has w j) (e i h) ∙ within
+          | no g ↦
+              let m : length ws ≤ i = omega arith in
+              rw (List·getD-eq-default ws 0 m) (has-empty j ∙ sym (past k (omega arith)))
+        ]
+      where
+        within : has (wordWhere n p i) j ≡ has (setWhere n p) k
+        within =
+            elim (decLt k n) [
+              | yes h ↦ has-in (min 64 (n - 64 * i)) j (λ k. p (64 * i + k)) (omega arith) ∙ ap p (sym q) ∙ sym (has-in n k p h)
+              | no g ↦ has-above (min 64 (n - 64 * i)) j (setWhere-lt (min 64 (n - 64 * i)) (λ k. p (64 * i + k))) (omega arith) ∙ sym (past k (omega arith))
+            ]
+
+-- two tests for equality that say the same
+eqb-both : (a b c d : ℕ) → (a ≡ b → c ≡ d) → (c ≡ d → a ≡ b) → eqb a b ≡ eqb c d
+eqb-both a b c d f g =
+    elim (decLt c d) [
+      | yes h ↦ unequal (λ q. omega arith)
+      | no h ↦ elim (decLt d c) [
+        | yes l ↦ unequal (λ q. omega arith)
+        | no l ↦ let q : c ≡ d = omega arith in eq-eqb a b (g q) ∙ sym (eq-eqb c d q)
+      ]
+    ]
+  where
+    unequal : (c ≡ d → ⊥) → eqb a b ≡ eqb c d
+    unequal h = ne-eqb a b (λ q. h (f q)) ∙ sym (ne-eqb c d h)
+
+-- whether words are 0, or two sets are one, by the first word and the others
+pub empty-cons : (ws : List ℕ) → eqb (setOf (0 ∷ ws)) 0 ≡ eqb (setOf ws) 0
+unfolding setOf
+empty-cons ws = eqb-both (setOf ws * 2 ^ 64 + 0) 0 (setOf ws) 0 (λ q. omega arith) (λ q. omega arith)
+
+pub not-empty : (w : ℕ) (ws : List ℕ) → (w ≡ 0 → ⊥) → eqb (setOf (w ∷ ws)) 0 ≡ false
+unfolding setOf
+not-empty w ws h = ne-eqb (setOf ws * 2 ^ 64 + w) 0 (omega arith)
+
+pub same-cons : (w : ℕ) (us vs : List ℕ) → eqb (setOf (w ∷ us)) (setOf (w ∷ vs)) ≡ eqb (setOf us) (setOf vs)
+unfolding setOf
+same-cons w us vs = eqb-both (setOf us * 2 ^ 64 + w) (setOf vs * 2 ^ 64 + w) (setOf us) (setOf vs) (λ q. omega arith) (λ q. omega arith)
+
+pub not-same : (v w : ℕ) (us vs : List ℕ) → v < 2 ^ 64 → w < 2 ^ 64 → (v ≡ w → ⊥) → eqb (setOf (v ∷ us)) (setOf (w ∷ vs)) ≡ false
+unfolding setOf
+not-same v w us vs a b h = ne-eqb (setOf us * 2 ^ 64 + v) (setOf vs * 2 ^ 64 + w) (λ q. h (omega arith))
+
+-- the members counted from b on, word by word
+members-from : (b w : ℕ) (ws : List ℕ) → w < 2 ^ 64 → map (λ k. b + k) (membersOf (w ∷ ws)) ≡ map (λ k. b + k) (members 64 w) ++ map (λ k. b + 64 + k) (membersOf ws)
+members-from b w ws h =
+    ap (map (λ k. b + k)) (membersOf-cons w ws h)
+    ∙ map-append (λ k. b + k) (members 64 w) (map (λ k. 64 + k) (membersOf ws))
+    ∙ ap (λ ks. map (λ k. b + k) (members 64 w) ++ ks) (map-map (λ k. b + k) (λ k. 64 + k) (membersOf ws) ∙ (λ i. map (λ k. sym (add-assoc b 64 k) i) (membersOf ws)))
+
+-- counted from 0 on
+pub from-start : (ks : List ℕ) → map (λ k. 64 * 0 + k) ks ≡ ks
+from-start ks = (λ i. map (λ k. zero-add k i) ks) ∙ map-id ks
+
+-- the members from word i on, with that word and without
+module _ (ws : List ℕ) (i : ℕ) (h : i < length ws) (small : getD ws i 0 < 2 ^ 64) where
+  pub count-drop : length (membersOf (drop i ws)) ≡ length (members 64 (getD ws i 0)) + length (membersOf (drop (i + 1) ws))
+  count-drop = rw (drop-cons ws i 0 h, add-one) (count-cons (getD ws i 0) (drop (suc i) ws) small)
+
+  pub members-drop : map (λ k. 64 * i + k) (membersOf (drop i ws)) ≡ map (λ k. 64 * i + k) (members 64 (getD ws i 0)) ++ map (λ k. 64 * (i + 1) + k) (membersOf (drop (i + 1) ws))
+  members-drop =
+      let e : 64 * (i + 1) ≡ 64 * i + 64 = omega arith in
+      rw (drop-cons ws i 0 h, e, add-one) (members-from (64 * i) (getD ws i 0) (drop (suc i) ws) small)

@@ -2,7 +2,7 @@
 -- one number; the operations on words; the sets of a test; a set with one more. Assumes nothing.
 use mathlib.Core.Path.{_≡_, refl, sym, ap, ap₂, _∙_}
 use mathlib.Core.Logic.{⊎-elim}
-use mathlib.Core.Bool.{Bool, true, false, cond, _&&_, _||_, true≢false, or-false, and-false, and-true}
+use mathlib.Core.Bool.{Bool, true, false, cond, _&&_, _||_, true≢false, or-false, or-assoc, or-self, and-false, and-true}
 use Prim.Native.Nat.{ℕ, zero, suc, _+_, _*_, _/_, _%_, _^_, _≤_, _<_, suc-le-suc}
 use native.Mathlib.Nat.{div-one, div-eq-of-lt, div-add-mod', mod-lt, zero-lt-suc, pow-suc, mul-mod-left, mul-div-cancel, le-of-suc-le-suc, eq-or-lt-of-le, add-zero}
 use native.Mathlib.Decide.{decLt}
@@ -171,3 +171,12 @@ module _ (n s k : ℕ) where
   pub adding-past : s < 2 ^ n → n ≤ k → adding n s k ≡ s
   unfolding adding
   adding-past h l = sym (setWhere-is n s _ h (λ i g. sym (rw (ne-eqb i k (omega arith)) (or-false (has s i)))))
+
+  -- what is in a set already
+  pub adding-again : adding n (adding n s k) k ≡ adding n s k
+  unfolding adding
+  adding-again =
+      setWhere-ext n _ _
+      (λ i h.
+      rw (has-in n i (λ j. has s j || eqb j k) h)
+      (or-assoc (has s i) (eqb i k) (eqb i k) ∙ ap (λ t. has s i || t) (or-self (eqb i k))))

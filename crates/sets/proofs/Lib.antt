@@ -1,4 +1,5 @@
 pub mod Laws
 pub mod Members
+pub mod Writing
 pub mod InWords
 pub mod Table

@@ -34,7 +34,7 @@ those-shift p b i (suc n) = rw (← add-suc b i, those-shift p b (suc i) n) (go 
     go false ks = refl
 
 -- they are at most n
-pub those-le : (p : ℕ → Bool) (i n : ℕ) → length (those p i n) ≤ n
+those-le : (p : ℕ → Bool) (i n : ℕ) → length (those p i n) ≤ n
 unfolding those
 those-le p i zero = omega arith
 those-le p i (suc n) = go (p i) (those-le p (suc i) n)
@@ -70,6 +70,10 @@ members-empty n = go 0 n
     go : (i m : ℕ) → those (has 0) i m ≡ []
     go i zero = refl
     go i (suc m) = rw (has-empty i) (go (suc i) m)
+
+pub members-le : (n s : ℕ) → length (members n s) ≤ n
+unfolding members
+members-le n s = those-le (has s) 0 n
 
 -- by the lowest bit and the others
 members-half : (n s : ℕ) → members (suc n) s ≡ keep (eqb (s % 2) 1) 0 (map (λ k. 1 + k) (members n (s / 2)))
@@ -194,6 +198,11 @@ pub reports-length : (e : ℕ) (ks : List ℕ) → length (reports e ks) ≡ 2 *
 unfolding reports
 reports-length e [] = refl
 reports-length e (k ∷ ks) = omega (arith, reports-length e ks)
+
+pub reports-append : (e : ℕ) (js ks : List ℕ) → reports e (js ++ ks) ≡ reports e js ++ reports e ks
+unfolding reports
+reports-append e [] ks = refl
+reports-append e (j ∷ js) ks = ap (λ rs. e ∷ j ∷ rs) (reports-append e js ks)
 
 -- the reports of ks stored from i on
 pub reports-stored : (e : ℕ) (ks l : List ℕ) (i j : ℕ) → j ≡ i + 2 * length ks → j ≤ length l

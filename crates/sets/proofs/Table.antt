@@ -1,17 +1,17 @@
--- A table of sets is known by the sets of its rows, for any number of words a row; and what one word a row comes to. Assumes nothing.
+-- A table of sets is known by the sets of its rows, for any number of words a row; and a row's set by its words. Assumes nothing.
 use mathlib.Core.Path.{_≡_, refl, sym, ap, _∙_}
-use mathlib.Core.List.{List, [], _∷_}
+use mathlib.Core.List.{List, []}
 use Prim.Native.Nat.{ℕ, zero, suc, _+_, _*_, _/_, _%_, _≤_, _<_}
-use native.Mathlib.Nat.{mod-lt, div-add-mod', div-lt-iff-lt-mul, mul-comm, zero-mul, one-mul, zero-add, zero-lt-suc}
+use native.Mathlib.Nat.{mod-lt, div-add-mod', div-lt-iff-lt-mul, mul-comm, zero-mul, zero-lt-suc}
 use native.Mathlib.Omega.{arith}
 use native.Mathlib.Decide.{decLt}
 use lib.Pow.{pow-pos}
-use lib.ListN.{length, getD, take, drop, length-take, List·getD-eq-default}
+use lib.ListN.{length, getD, take, drop, replicate, length-take, length-drop, drop-of-length-le, getD-replicate, List·getD-eq-default}
 use lib.Seq.{getD-take, getD-drop}
-use Rattle.sets.specs.Sets.{has, setOf}
-use Rattle.sets.specs.Table.{rowSet, rulesAt}
+use Rattle.sets.specs.Sets.{has, members, setOf, membersOf}
+use Rattle.sets.specs.Table.{rowWords, rowSet, rulesAt}
 use Rattle.sets.proofs.Laws.{ext}
-use Rattle.sets.proofs.InWords.{Words, has-at}
+use Rattle.sets.proofs.InWords.{Words, has-at, setOf-ext}
 
 -- the words of a set
 same-words : (us vs : List ℕ) → Words us → Words vs → setOf us ≡ setOf vs → (i : ℕ) → getD us i 0 ≡ getD vs i 0
@@ -41,14 +41,68 @@ same-table (suc v) n xs ys f g e j h =
     let r = same-words _ _ (words-row w xs (j / w) f) (words-row w ys (j / w) g) (e (j / w) i) (j % w) in
     rw (getD-take w (drop (w * (j / w)) xs) (j % w) 0 k, getD-take w (drop (w * (j / w)) ys) (j % w) 0 k, getD-drop (w * (j / w)) xs, getD-drop (w * (j / w)) ys, q) at r
 
--- ---- a word a row: the row's set is its word
+-- ---- a row's set
 
-pub rules-word : (xs : List ℕ) (i : ℕ) → rulesAt xs i ≡ getD xs i 0
-unfolding rulesAt rowSet setOf
-rules-word xs i = rw (one-mul i) (go xs i)
+-- it is that of the row's words
+pub rules-part : (xs : List ℕ) (i : ℕ) → rulesAt xs i ≡ setOf (take rowWords (drop (rowWords * i) xs))
+unfolding rulesAt rowSet
+rules-part xs i = refl
+
+-- word j of row i
+pub row-word : (w i j : ℕ) (xs : List ℕ) → j < w → getD (take w (drop (w * i) xs)) j 0 ≡ getD xs (w * i + j) 0
+row-word w i j xs h = getD-take w (drop (w * i) xs) j 0 h ∙ getD-drop (w * i) xs j 0
+
+-- so the set is known by them
+pub rules-words : (xs ws : List ℕ) (i : ℕ) → length ws ≡ rowWords → ((j : ℕ) → j < rowWords → getD xs (rowWords * i + j) 0 ≡ getD ws j 0) → rulesAt xs i ≡ setOf ws
+rules-words xs ws i n e = rules-part xs i ∙ setOf-ext _ ws at
   where
-    go : (xs : List ℕ) (i : ℕ) → setOf (take 1 (drop i xs)) ≡ getD xs i 0
-    go [] zero = refl
-    go [] (suc i) = refl
-    go (x ∷ xs) zero = zero-add x
-    go (x ∷ xs) (suc i) = go xs i
+    row : List ℕ
+    row = take rowWords (drop (rowWords * i) xs)
+
+    at : (j : ℕ) → getD row j 0 ≡ getD ws j 0
+    at j =
+        elim (decLt j rowWords) [
+          | yes h ↦ row-word rowWords i j xs h ∙ e j h
+          | no g ↦ List·getD-eq-default row 0 (rw length-take (omega arith)) ∙ sym (List·getD-eq-default ws 0 (omega arith))
+        ]
+
+-- and is the same in tables with the same words there
+pub rules-same : (xs ys : List ℕ) (i : ℕ) → ((j : ℕ) → j < rowWords → getD xs (rowWords * i + j) 0 ≡ getD ys (rowWords * i + j) 0) → rulesAt xs i ≡ rulesAt ys i
+rules-same xs ys i e = rules-part xs i ∙ setOf-ext _ _ at ∙ sym (rules-part ys i)
+  where
+    part : List ℕ → List ℕ
+    part zs = take rowWords (drop (rowWords * i) zs)
+
+    past : (zs : List ℕ) (j : ℕ) → rowWords ≤ j → getD (part zs) j 0 ≡ 0
+    past zs j h = List·getD-eq-default (part zs) 0 (rw length-take (omega arith))
+
+    at : (j : ℕ) → getD (part xs) j 0 ≡ getD (part ys) j 0
+    at j =
+        elim (decLt j rowWords) [
+          | yes h ↦ row-word rowWords i j xs h ∙ e j h ∙ sym (row-word rowWords i j ys h)
+          | no g ↦ past xs j (omega arith) ∙ sym (past ys j (omega arith))
+        ]
+
+-- and empty where they are 0
+pub rules-none : (xs : List ℕ) (i : ℕ) → ((j : ℕ) → j < rowWords → getD xs (rowWords * i + j) 0 ≡ 0) → rulesAt xs i ≡ 0
+unfolding setOf
+rules-none xs i e = rules-words xs (replicate rowWords 0) i refl (λ j h. e j h ∙ sym (getD-replicate rowWords j 0 0 h))
+
+-- ---- a row's words, one by one
+
+module _ (xs : List ℕ) (i : ℕ) where
+  -- the words of row i
+  abbrev pub rowOf : List ℕ
+  rowOf = take rowWords (drop (rowWords * i) xs)
+
+  module _ (room : rowWords * suc i ≤ length xs) where
+    pub row-long : length rowOf ≡ rowWords
+    row-long = rw (length-take, length-drop) (omega arith)
+
+    pub row-end : (j : ℕ) → rowWords ≤ j → drop j rowOf ≡ []
+    row-end j h = let l : length rowOf ≤ j = omega (arith, row-long) in drop-of-length-le rowOf l
+
+    -- and the members of its set
+    pub members-row : members (64 * rowWords) (rulesAt xs i) ≡ membersOf rowOf
+    unfolding membersOf
+    members-row = rw (row-long, rules-part xs i)

@@ -1,9 +1,10 @@
 -- Sets of numbers, each as one number: k is in the set where the bit k is set. Assumes nothing.
 use mathlib.Core.Bool.{Bool, true, false, cond, _||_}
 use mathlib.Core.List.{List, [], _∷_}
-use Prim.Native.Nat.{ℕ, zero, suc, _+_, _-_, _*_, _/_, _%_, _^_}
+use Prim.Native.Nat.{ℕ, zero, suc, _+_, _-_, _*_, _/_, _%_, _^_, min}
 use lib.Dec.{eqb}
-use lib.ListN.{length}
+use lib.Bits.{bitOr}
+use lib.ListN.{length, getD, drop}
 
 -- whether k is in the set s
 unfoldable pub has : ℕ → ℕ → Bool
@@ -40,6 +41,15 @@ setOf (w ∷ ws) = setOf ws * 2 ^ 64 + w
 -- its members, ascending
 unfoldable pub membersOf : List ℕ → List ℕ
 membersOf ws = members (64 * length ws) (setOf ws)
+
+-- word i of the set of the k below n with p k
+abbrev pub wordWhere : ℕ → (ℕ → Bool) → ℕ → ℕ
+wordWhere n p i = setWhere (min 64 (n - 64 * i)) (λ k. p (64 * i + k))
+
+-- the words us, each united with the word of vs in its place
+unfoldable pub united : List ℕ → List ℕ → List ℕ
+united [] vs = []
+united (u ∷ us) vs = bitOr u (getD vs 0 0) ∷ united us (drop 1 vs)
 
 -- the reports of the rules ks, all ending at e: two numbers each
 unfoldable pub reports : ℕ → List ℕ → List ℕ

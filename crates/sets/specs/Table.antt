@@ -6,7 +6,7 @@ use Rattle.sets.specs.Sets.{setOf}
 
 -- how many words of the table a row has
 abbrev pub rowWords : ℕ
-rowWords = 1
+rowWords = 4
 
 -- the set of row i in a table with w words a row
 unfoldable pub rowSet : ℕ → List ℕ → ℕ → ℕ

@@ -17,8 +17,8 @@ fn sum(book: &[u8], profile: &[u8]) {
     let mut goto = [0u16; inputs::ENTRIES];
     let mut fall = [0u16; inputs::ROWS];
     let mut held = [0u8; inputs::ROWS];
-    let mut live = [0u64; inputs::ROWS];
-    let mut out = [0u64; inputs::ROWS];
+    let mut live = [0u64; inputs::WORDS];
+    let mut out = [0u64; inputs::WORDS];
     let built = build::build(book, &mut goto, &mut fall, &mut held, &mut live, &mut out);
     if inputs::say_built(built.number(), built.value()) {
         total(&goto, &fall, &held, &live, &out, built.value(), profile);

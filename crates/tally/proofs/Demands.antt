@@ -8,6 +8,7 @@ use native.Mathlib.Decide.{decLt}
 use borrow.Author.Tests.{lt-ltb, le-ltb}
 use lib.ListN.{length, getD, drop, replicate, length-append, length-drop, length-replicate, List·getD-append}
 use lib.Seq.{drop-append-seam}
+use Rattle.sets.specs.Table.{rulesAt}
 use Rattle.meaning.specs.Rules.{Rules}
 use Rattle.meaning.specs.Tables.{Five}
 use Rattle.meaning.proofs.Looks.{row-first}
@@ -25,8 +26,8 @@ use Rattle.tally.specs.declared.Tallied.{Tallied}
 use Rattle.tally.specs.declared.Tallied.the-variants.{Accepted, TooLong, BadRows, FewSums, BadLine, Damaged}
 use Rattle.tally.specs.Lines.{linesOf, checkOf}
 use Rattle.tally.specs.Tally.{linesPass, sumsOf, moveBy, judged, walked, bufferOf, numberOf, valueOf}
-use Rattle.tally.specs.Totals.{Call, answer, after, Answers, AllSound, Ready, among, reportsIn, total, Refusals, Refuses, times, Over, Summed, Sums, Tells, Tallies}
-use Rattle.tally.proofs.Walks.{lines-length}
+use Rattle.tally.specs.Totals.{SumsFit, Call, answer, after, Answers, AllSound, Ready, among, reportsIn, total, Refusals, Refuses, times, Over, Summed, Sums, Tells, Tallies}
+use Rattle.tally.proofs.Walks.{lines-length, lines-room}
 use Rattle.tally.proofs.Answers.{tallied}
 use Rattle.tally.proofs.Times.{occurrences}
 use Rattle.tally.proofs.Walked.{frame-reports}
@@ -74,10 +75,10 @@ accepted (Damaged at) sums old k e l = absurd (omega arith)
 
 module _ (w : Call) where
   abbrev found : List ℕ
-  found = sumsOf (moveBy (w .tables) (w .n)) (w .profile)
+  found = sumsOf (moveBy (w .tables) (w .n)) (rulesAt (w .tables .out)) (w .profile)
 
   found-length : length found ≡ mostRules
-  found-length = lines-length (moveBy (w .tables) (w .n)) (w .profile) (replicate mostRules 0) ∙ length-replicate {A = ℕ} mostRules 0
+  found-length = lines-length (moveBy (w .tables) (w .n)) (rulesAt (w .tables .out)) (w .profile) (replicate mostRules 0) ∙ length-replicate {A = ℕ} mostRules 0
 
   answers : {a : Tallied} → answer w ≡ a → Answers w (numberOf a) (valueOf a)
   answers e = record { number-is = rw e; value-is = rw e }
@@ -145,7 +146,7 @@ module _ (w : Call) where
   sums-told : Start → Answers w 0 0 → (k : ℕ) → k < mostRules → getD (after w) k 0 ≡ total (reportsIn (w .tables) (w .n) k) (w .profile)
   sums-told (refused ne _) a k l = absurd (ne (a .number-is))
   sums-told (ready x) a k l =
-      sums-are a k l ∙ sum-is (moveBy (w .tables) (w .n)) k l (w .profile)
+      sums-are a k l ∙ sum-is (moveBy (w .tables) (w .n)) (rulesAt (w .tables .out)) k l (w .profile)
       ∙ ap (λ (often : List ℕ → ℕ). total often (w .profile)) (fun-ext (λ frame. ap (among k) (frame-reports (w .tables) (w .n) (x .lends) (x .some) frame)))
 
   roomy : Start → numberOf (answer w) ≡ 0 → mostRules ≤ length (w .sums)
@@ -165,6 +166,9 @@ module _ (w : Call) where
     later = later (answer w) found (w .sums) found-length;
     long = long (answer w) found (w .sums) found-length (roomy start);
   }
+
+pub sums-fit : SumsFit
+sums-fit w short k = omega (arith, lines-room (moveBy (w .tables) (w .n)) (rulesAt (w .tables .out)) (w .profile) short .fits k)
 
 pub refuses : Refuses
 refuses w = refusals w

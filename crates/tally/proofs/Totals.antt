@@ -10,6 +10,7 @@ use lib.ListN.{length, getD, take, replicate}
 use Rattle.rows.specs.Rows.{ByteText, IsRow}
 use Rattle.rows.proofs.Build.{byte-cons}
 use Rattle.sets.specs.Sets.{has, members}
+use Rattle.sets.specs.Table.{rulesAt}
 use Rattle.meaning.specs.Rules.{Rules}
 use Rattle.meaning.specs.Standing.{Same}
 use Rattle.meaning.specs.Tables.{Five, Tables}
@@ -61,31 +62,31 @@ frames-all n line b = split-all semicolon ([] ∷ []) (more no-byte empty) (take
 
 -- ---- sums, whatever lies behind a move
 
-module _ (move : ℕ → ℕ → Moved) (k : ℕ) (small : k < mostRules) where
+module _ (move : ℕ → ℕ → Moved) (rules : ℕ → ℕ) (k : ℕ) (small : k < mostRules) where
   -- how often a frame reports rule k
   abbrev reporting : List ℕ → ℕ
-  reporting frame = among k (frameRules move frame)
+  reporting frame = among k (frameRules move rules frame)
 
-  frames-times : (fs : List (List ℕ)) → among k (rulesOver move fs) ≡ timesIn reporting fs
+  frames-times : (fs : List (List ℕ)) → among k (rulesOver move rules fs) ≡ timesIn reporting fs
   unfolding rulesOver timesIn among
   frames-times [] = refl
   frames-times (f ∷ fs) = rw (among-append, frames-times fs)
 
-  line-part : (line sums : List ℕ) → k < length sums → getD (lineSums move line sums) k 0 ≡ getD sums k 0 + partOf reporting line
+  line-part : (line sums : List ℕ) → k < length sums → getD (lineSums move rules line sums) k 0 ≡ getD sums k 0 + partOf reporting line
   unfolding lineSums partOf stackRules
   line-part line sums h = go (lineOf line)
     where
-      go : (l : Line) → getD (onLine l (λ stack count. addAll count (stackRules move (take stack line)) sums) sums) k 0
+      go : (l : Line) → getD (onLine l (λ stack count. addAll count (stackRules move rules (take stack line)) sums) sums) k 0
           ≡ getD sums k 0 + onLine l (λ stack count. count * timesIn reporting (framesOf (take stack line))) 0
-      go (Sound stack count) = add-times count k (stackRules move (take stack line)) sums h ∙ rw (frames-times (framesOf (take stack line)))
+      go (Sound stack count) = add-times count k (stackRules move rules (take stack line)) sums h ∙ rw (frames-times (framesOf (take stack line)))
       go Broken = rw add-zero
 
-  lines-part : (ls : List (List ℕ)) (sums : List ℕ) → k < length sums → getD (sumsOver move ls sums) k 0 ≡ getD sums k 0 + partsOf reporting ls
+  lines-part : (ls : List (List ℕ)) (sums : List ℕ) → k < length sums → getD (sumsOver move rules ls sums) k 0 ≡ getD sums k 0 + partsOf reporting ls
   unfolding sumsOver partsOf
   lines-part [] sums h = rw add-zero
-  lines-part (l ∷ ls) sums h = lines-part ls (lineSums move l sums) (rw (line-length move l sums) h) ∙ rw (line-part l sums h, add-assoc)
+  lines-part (l ∷ ls) sums h = lines-part ls (lineSums move rules l sums) (rw (line-length move rules l sums) h) ∙ rw (line-part l sums h, add-assoc)
 
-  pub sum-is : (profile : List ℕ) → getD (sumsOf move profile) k 0 ≡ total reporting profile
+  pub sum-is : (profile : List ℕ) → getD (sumsOf move rules profile) k 0 ≡ total reporting profile
   unfolding linesSums
   sum-is profile = lines-part (linesOf profile) (replicate mostRules 0) small ∙ rw (zero-at mostRules k, zero-add)
 
@@ -123,13 +124,16 @@ module _ {r : Rules} {b : Five} {n : ℕ} (tables : Tables r b n) (lends : n ≤
   abbrev move : ℕ → ℕ → Moved
   move = moveBy b n
 
+  abbrev rules : ℕ → ℕ
+  rules = rulesAt (b .out)
+
   -- ---- each walk gets through
 
   from-through : (frame : List ℕ) → ByteText frame → (at : ℕ) {t : List ℕ} {i : ℕ} → IsRow (Same r) (tables .texts) t i → passFrom move at i frame ≡ Through
   unfolding passFrom
   from-through [] bytes at x = refl
   from-through (c ∷ frame) bytes at {t} {i} x =
-      let (e, m, y) = moves r b n tables lends t i c x (bytes 0) in
+      let (e, m, o, y) = moves r b n tables lends t i c x (bytes 0) in
       rw m (from-through frame (λ j. bytes (suc j)) (at + 1) y)
 
   frame-through : (at : ℕ) (frame : List ℕ) → ByteText frame → framePass move at frame ≡ Through
@@ -151,16 +155,16 @@ module _ {r : Rules} {b : Five} {n : ℕ} (tables : Tables r b n) (lends : n ≤
   -- ---- the sums
 
   module _ (k : ℕ) (small : k < mostRules) where
-    from-times : (frame : List ℕ) → ByteText frame → {t : List ℕ} {i : ℕ} → IsRow (Same r) (tables .texts) t i → among k (rulesFrom move i frame) ≡ timesFrom r k t frame
+    from-times : (frame : List ℕ) → ByteText frame → {t : List ℕ} {i : ℕ} → IsRow (Same r) (tables .texts) t i → among k (rulesFrom move rules i frame) ≡ timesFrom r k t frame
     unfolding rulesFrom timesFrom among members
     from-times [] bytes x = refl
     from-times (c ∷ frame) bytes {t} {i} x =
-        let (e, m, y) = moves r b n tables lends t i c x (bytes 0) in
-        rw (m, among-append, among-those (has _) k 0 mostRules (omega arith) (omega arith), from-times frame (λ j. bytes (suc j)) y)
+        let (e, m, o, y) = moves r b n tables lends t i c x (bytes 0) in
+        rw (m, o, among-append, among-those (has _) k 0 mostRules (omega arith) (omega arith), from-times frame (λ j. bytes (suc j)) y)
 
-    frame-times : (frame : List ℕ) → ByteText frame → among k (frameRules move frame) ≡ times r k frame
+    frame-times : (frame : List ℕ) → ByteText frame → among k (frameRules move rules frame) ≡ times r k frame
     unfolding frameRules
     frame-times frame bytes = from-times frame bytes (row-first tables)
 
-    pub sum-occurs : (profile : List ℕ) → ByteText profile → getD (sumsOf move profile) k 0 ≡ total (times r k) profile
-    sum-occurs profile bytes = sum-is move k small profile ∙ total-same (reporting move k small) (times r k) frame-times profile bytes
+    pub sum-occurs : (profile : List ℕ) → ByteText profile → getD (sumsOf move rules profile) k 0 ≡ total (times r k) profile
+    sum-occurs profile bytes = sum-is move rules k small profile ∙ total-same (reporting move rules k small) (times r k) frame-times profile bytes

@@ -3,7 +3,7 @@ use mathlib.Core.Bool.{Bool, true, false, cond}
 use mathlib.Core.List.{List, [], _∷_, _++_}
 use mathlib.Core.Logic.{_≢_}
 use mathlib.Core.Path.{_≡_, refl, ap, _∙_}
-use Prim.Native.Nat.{ℕ, zero, suc, _+_, _/_, _≤_, _<_}
+use Prim.Native.Nat.{ℕ, _+_, _/_, _≤_, _<_}
 use native.Mathlib.Nat.{add-zero}
 use native.Mathlib.Omega.{arith}
 use lib.Dec.{ltb}
@@ -19,7 +19,7 @@ use Rattle.walk.specs.declared.Moved.{Moved}
 use Rattle.walk.specs.declared.Moved.the-variants.{Reached, Lost}
 use Rattle.walk.specs.declared.Walked.{Walked}
 use Rattle.walk.specs.declared.Walked.the-variants.{Accepted, TooLong, BadRows, Damaged, NoRoom}
-use Rattle.walk.specs.Walk.{Lent, Looked, Go, Fall, Wrong, lookAt, onLook, moveIn, moveFrom, onMove, reported, runFrom, runOf, reportsFrom, reportsOf, answerOf, walkOf, numberOf, valueOf}
+use Rattle.walk.specs.Walk.{Lent, moveFrom, onMove, reported, runFrom, runOf, reportsFrom, reportsOf, answerOf, walkOf, numberOf, valueOf}
 use Rattle.walk.proofs.Laws.{Within, move-within, long-enough, rows-lent, walked}
 use Rattle.tally.specs.declared.Pass.{Pass}
 use Rattle.tally.specs.declared.Pass.the-variants.{Through, Ends}
@@ -40,35 +40,15 @@ abbrev onRun : ℕ → Counted → Pass
 onRun base (Read made falls row) = Through
 onRun base (Stopped i) = Ends (base + i)
 
--- ---- a move answers the set of the row that it reaches
-
-abbrev Tells : List ℕ → Moved → Type 0
-Tells out (Reached row falls rules) = rules ≡ rulesAt out row
-Tells out Lost = Unit {0}
-
-tells-look : (out : List ℕ) (l : Looked) (falls : ℕ) (k : ℕ → Moved) → ((f : ℕ) → Tells out (k f)) → Tells out (onLook out l falls k)
-tells-look out (Go e) falls k h = refl
-tells-look out (Fall f) falls k h = h f
-tells-look out Wrong falls k h = tt
-
 module _ (b : Five) (n : ℕ) (lends : n ≤ lent b) where
   abbrev moving : ℕ → ℕ → Moved
-  moving row c = moveFrom (b .goto) (b .fall) (b .out) n row c 0
-
-  tells-in : (k row c falls : ℕ) → Tells (b .out) (moveIn (b .goto) (b .fall) (b .out) n k row c falls)
-  unfolding moveIn
-  tells-in zero row c falls = tt
-  tells-in (suc k) row c falls = tells-look (b .out) (lookAt (b .goto) (b .fall) n row c) falls _ (λ f. tells-in k f c (falls + 1))
-
-  tells : (row c : ℕ) → Tells (b .out) (moving row c)
-  unfolding moveFrom
-  tells row c = tells-in (suc row) row c 0
+  moving row c = moveFrom (b .goto) (b .fall) n row c 0
 
   -- from a row that is lent
   move-is : (row c : ℕ) → row < n → moveBy b n row c ≡ moving row c
   move-is row c l =
-      let enough : Lent (b .goto) (b .fall) (b .out) n = record { few = omega arith; entries = omega arith; falls = omega arith; outs = omega arith } in
-      rw (long-enough (b .goto) (b .fall) (b .out) n row enough l)
+      let enough : Lent (b .goto) (b .fall) n = record { few = omega arith; entries = omega arith; falls = omega arith } in
+      rw (long-enough (b .goto) (b .fall) (b .out) n row enough (omega arith) l)
 
   -- ---- a frame
 
@@ -82,25 +62,25 @@ module _ (b : Five) (n : ℕ) (lends : n ≤ lent b) where
   unfolding passFrom runFrom
   pass-is [] base at row falls made l = refl
   pass-is (c ∷ frame) base at row falls made l =
-      rw (move-is row c l) (go (moving row c) (move-within (b .goto) (b .fall) (b .out) n row c 0) (λ to f m h. pass-is frame base (at + 1) to f m h))
+      rw (move-is row c l) (go (moving row c) (move-within (b .goto) (b .fall) n row c 0) (λ to f m h. pass-is frame base (at + 1) to f m h))
     where
       go : (m : Moved) → Within n m → ((to f m : ℕ) → to < n → passFrom (moveBy b n) (base + (at + 1)) to frame ≡ onRun base (run (at + 1) to f m frame))
-          → afterMove m (λ to rules. passFrom (moveBy b n) (base + at + 1) to frame) (Ends (base + at))
+          → afterMove m (λ to. passFrom (moveBy b n) (base + at + 1) to frame) (Ends (base + at))
           ≡ onRun base (onMove m (λ to more. run (at + 1) to (falls + more) (made + length (reported (b .out) to)) frame) (Stopped at))
-      go (Reached to f rules) w ih = let q : base + at + 1 ≡ base + (at + 1) = omega arith in rw q (ih to (falls + f) (made + length (reported (b .out) to)) w)
+      go (Reached to f) w ih = let q : base + at + 1 ≡ base + (at + 1) = omega arith in rw q (ih to (falls + f) (made + length (reported (b .out) to)) w)
       go Lost w ih = refl
 
-  rules-are : (frame : List ℕ) (at row : ℕ) → row < n → rulesFrom (moveBy b n) row frame ≡ rulesIn (reporting at row frame)
+  rules-are : (frame : List ℕ) (at row : ℕ) → row < n → rulesFrom (moveBy b n) (rulesAt (b .out)) row frame ≡ rulesIn (reporting at row frame)
   unfolding rulesFrom reportsFrom rulesIn
   rules-are [] at row l = refl
   rules-are (c ∷ frame) at row l =
-      rw (move-is row c l) (go (moving row c) (move-within (b .goto) (b .fall) (b .out) n row c 0) (tells row c) (λ to h. rules-are frame (at + 1) to h))
+      rw (move-is row c l) (go (moving row c) (move-within (b .goto) (b .fall) n row c 0) (λ to h. rules-are frame (at + 1) to h))
     where
-      go : (m : Moved) → Within n m → Tells (b .out) m → ((to : ℕ) → to < n → rulesFrom (moveBy b n) to frame ≡ rulesIn (reporting (at + 1) to frame))
-          → afterMove m (λ to rules. members mostRules rules ++ rulesFrom (moveBy b n) to frame) []
+      go : (m : Moved) → Within n m → ((to : ℕ) → to < n → rulesFrom (moveBy b n) (rulesAt (b .out)) to frame ≡ rulesIn (reporting (at + 1) to frame))
+          → afterMove m (λ to. members mostRules (rulesAt (b .out) to) ++ rulesFrom (moveBy b n) (rulesAt (b .out)) to frame) []
           ≡ rulesIn (onMove m (λ to more. pairs (at + 1) (reported (b .out) to) ++ reporting (at + 1) to frame) [])
-      go (Reached to f rules) w t ih = ap (λ s. members mostRules s ++ rulesFrom (moveBy b n) to frame) t ∙ rw (ih to w, rules-pairs, reported-is (b .out) to)
-      go Lost w t ih = refl
+      go (Reached to f) w ih = rw (ih to w, rules-pairs, reported-is (b .out) to)
+      go Lost w ih = refl
 
   -- ---- the walk's answer, with no room
 
@@ -149,6 +129,6 @@ module _ (b : Five) (n : ℕ) (lends : n ≤ lent b) where
     pub frame-kept : (at : ℕ) → length frame ≤ mostBytes → numberOf (walkOf b n frame 0) ≢ 13 → framePass (moveBy b n) at frame ≡ Through
     frame-kept at short ne = as-walked at short ∙ kept-is (walkOf b n frame 0) at ne
 
-    pub frame-reports : frameRules (moveBy b n) frame ≡ rulesIn (reportsOf (b .goto) (b .fall) (b .out) n frame)
+    pub frame-reports : frameRules (moveBy b n) (rulesAt (b .out)) frame ≡ rulesIn (reportsOf (b .goto) (b .fall) (b .out) n frame)
     unfolding frameRules
     frame-reports = rules-are frame 0 0 (omega arith)

@@ -1,5 +1,5 @@
 -- The tally of a folded profile, as functions on lists: what the walk of each frame reports, what is added, and the answer. What lies behind one
--- byte's move is not looked at: `move` is any function of a row and a byte. Assumes nothing.
+-- byte's move and a row's rules is not looked at: `move` is any function of a row and a byte, `rules` any function of a row. Assumes nothing.
 use mathlib.Core.Bool.{cond}
 use mathlib.Core.List.{List, [], _∷_, _++_}
 use Prim.Native.Nat.{ℕ, _+_}
@@ -26,25 +26,37 @@ addAll count (k ∷ rules) sums = addAll count rules (set sums k (getD sums k 0 
 
 -- ---- walks
 
--- f of the row that a move reached and of the rules reported there, or z where it is lost
-abbrev pub afterMove : {A : Type 0} → Moved → (ℕ → ℕ → A) → A → A
-afterMove (Reached row falls rules) f z = f row rules
+-- f of the row that a move reached, or z where it is lost
+abbrev pub afterMove : {A : Type 0} → Moved → (ℕ → A) → A → A
+afterMove (Reached row falls) f z = f row
 afterMove Lost f z = z
 
 module _ (move : ℕ → ℕ → Moved) where
   -- What is left of a frame, from a row on, `at` bytes into the profile: it ends at the byte whose move is lost.
   unfoldable pub passFrom : ℕ → ℕ → List ℕ → Pass
   passFrom at row [] = Through
-  passFrom at row (c ∷ frame) = afterMove (move row c) (λ to rules. passFrom (at + 1) to frame) (Ends at)
-
-  -- The rules that it reports, in order, each as often as it is reported.
-  unfoldable pub rulesFrom : ℕ → List ℕ → List ℕ
-  rulesFrom row [] = []
-  rulesFrom row (c ∷ frame) = afterMove (move row c) (λ to rules. members mostRules rules ++ rulesFrom to frame) []
+  passFrom at row (c ∷ frame) = afterMove (move row c) (λ to. passFrom (at + 1) to frame) (Ends at)
 
   -- Each frame is walked as a text of its own, from row 0.
   unfoldable pub framePass : ℕ → List ℕ → Pass
   framePass at frame = passFrom at 0 frame
+
+  unfoldable pub stackPass : ℕ → List ℕ → Pass
+  stackPass at stack = passOver framePass at (framesOf stack)
+
+  unfoldable pub linePass : ℕ → List ℕ → Pass
+  linePass at line = onLine (lineOf line) (λ stack count. stackPass at (take stack line)) Through
+
+  unfoldable pub linesPass : List ℕ → Pass
+  linesPass profile = passOver linePass 0 (linesOf profile)
+
+-- ---- what they report
+
+module _ (move : ℕ → ℕ → Moved) (rules : ℕ → ℕ) where
+  -- The rules that what is left of a frame reports, in order, each as often as it is reported.
+  unfoldable pub rulesFrom : ℕ → List ℕ → List ℕ
+  rulesFrom row [] = []
+  rulesFrom row (c ∷ frame) = afterMove (move row c) (λ to. members mostRules (rules to) ++ rulesFrom to frame) []
 
   unfoldable pub frameRules : List ℕ → List ℕ
   frameRules frame = rulesFrom 0 frame
@@ -53,15 +65,9 @@ module _ (move : ℕ → ℕ → Moved) where
   rulesOver [] = []
   rulesOver (f ∷ fs) = frameRules f ++ rulesOver fs
 
-  unfoldable pub stackPass : ℕ → List ℕ → Pass
-  stackPass at stack = passOver framePass at (framesOf stack)
-
   -- The rules that a stack's frames report.
   unfoldable pub stackRules : List ℕ → List ℕ
   stackRules stack = rulesOver (framesOf stack)
-
-  unfoldable pub linePass : ℕ → List ℕ → Pass
-  linePass at line = onLine (lineOf line) (λ stack count. stackPass at (take stack line)) Through
 
   -- The sums after a line: its count is added for each report.
   unfoldable pub lineSums : List ℕ → List ℕ → List ℕ
@@ -70,9 +76,6 @@ module _ (move : ℕ → ℕ → Moved) where
   unfoldable pub sumsOver : List (List ℕ) → List ℕ → List ℕ
   sumsOver [] sums = sums
   sumsOver (l ∷ ls) sums = sumsOver ls (lineSums l sums)
-
-  unfoldable pub linesPass : List ℕ → Pass
-  linesPass profile = passOver linePass 0 (linesOf profile)
 
   unfoldable pub linesSums : List ℕ → List ℕ → List ℕ
   linesSums profile sums = sumsOver (linesOf profile) sums

@@ -3,11 +3,12 @@ use mathlib.Core.Bool.{cond}
 use mathlib.Core.List.{List, [], _∷_}
 use mathlib.Core.Logic.{_⊎_, _≢_}
 use mathlib.Core.Path.{_≡_}
-use Prim.Native.Nat.{ℕ, _+_, _*_, _≤_, _<_}
+use Prim.Native.Nat.{ℕ, _+_, _*_, _^_, _≤_, _<_}
 use lib.Dec.{eqb}
 use lib.ListN.{length, getD, take, drop}
 use Rattle.rows.specs.Rows.{ByteText}
 use Rattle.sets.specs.Sets.{has}
+use Rattle.sets.specs.Table.{rulesAt}
 use Rattle.meaning.specs.Rules.{Rules, count}
 use Rattle.meaning.specs.Standing.{out}
 use Rattle.meaning.specs.Tables.{Five, Tables}
@@ -39,7 +40,7 @@ abbrev pub answer : Call → Tallied
 answer w = tallyOf (w .tables) (w .n) (w .profile) (length (w .sums))
 
 abbrev pub after : Call → List ℕ
-after w = bufferOf (answer w) (sumsOf (moveBy (w .tables) (w .n)) (w .profile)) (w .sums)
+after w = bufferOf (answer w) (sumsOf (moveBy (w .tables) (w .n)) (rulesAt (w .tables .out)) (w .profile)) (w .sums)
 
 -- it answers with this number and this value
 pub record Answers (w : Call) (number value : ℕ) : Type 0 where
@@ -145,6 +146,10 @@ pub record Refusals (w : Call) : Type 0 where
 
 abbrev pub Refuses : Type 0
 Refuses = (w : Call) → Refusals w
+
+-- No sum passes 64 bits, whichever the tables: a profile has at most `mostBytes` bytes, of which each is reported for at most `mostRules` rules.
+abbrev pub SumsFit : Type 0
+SumsFit = (w : Call) → length (w .profile) ≤ mostBytes → (k : ℕ) → getD (sumsOf (moveBy (w .tables) (w .n)) (rulesAt (w .tables .out)) (w .profile)) k 0 < 2 ^ 64
 
 -- ---- how often a rule occurs
 

@@ -1,10 +1,13 @@
 // The tally over a folded profile: its lines, the frames of a line's stack, the walk of each frame, and what is added.
 
 use book::Book;
+use sets::WORDS;
+ghost use mathlib.Core.List.{map};
 ghost use mathlib.Core.Path.{_≡_};
 ghost use Prim.Native.Nat.{_+_, _-_, _*_, _≤_, _<_};
 ghost use lib.ListN.{length, drop};
-ghost use Rattle.sets.specs.Sets.{members};
+ghost use Rattle.sets.specs.Sets.{members, setOf};
+ghost use Rattle.sets.specs.Table.{rowWords, rulesAt};
 ghost use Rattle.book.specs.Limits.{mostRules, mostBytes};
 ghost use Rattle.build.specs.Promise.{five};
 ghost use Rattle.walk.specs.Walk.{moveOf, written};
@@ -193,16 +196,28 @@ fn check(profile: &[u8]) -> Pass
 
 // ---- walks
 
-// Adds the count to the sum of each rule of a set.
-fn add(set: u64, count: u64, sums: &mut [u64; Book::RULES])
-    requires { ⌜ (count ≤ mostCount) × Room mostRules (now sums) ⌝ }
-    ensures { λ _. ⌜ now (sums .exit) ≡ addAll count (members mostRules set) (now (sums .entry)) ⌝ }
+// Adds the count to the sum of each rule of a word of a set, whose first is rule `base`.
+fn add_word(word: u64, base: usize, count: u64, sums: &mut [u64; Book::RULES])
+    requires { ⌜ (count ≤ mostCount) × (base + 64 ≤ mostRules) × Room (length (members 64 word)) (now sums) ⌝ }
+    ensures { λ _. ⌜ now (sums .exit) ≡ addAll count (map (λ k. base + k) (members 64 word)) (now (sums .entry)) ⌝ }
 {
-    let mut left = set;
+    let mut left = word;
     while left != 0 {
-        let k = sets::first(left) as usize;
+        let k = base + sets::first(left) as usize;
         sums[k] += count;
         left = sets::rest(left);
+    }
+}
+
+// Adds the count to the sum of each rule of a set.
+fn add(set: &[u64], count: u64, sums: &mut [u64; Book::RULES])
+    requires { ⌜ (count ≤ mostCount) × (length (now set) ≡ rowWords) × Room mostRules (now sums) ⌝ }
+    ensures { λ _. ⌜ now (sums .exit) ≡ addAll count (members mostRules (setOf (now (set .entry)))) (now (sums .entry)) ⌝ }
+{
+    let mut i: usize = 0;
+    while i < WORDS {
+        add_word(set[i], 64 * i, count, sums);
+        i += 1;
     }
 }
 
@@ -219,7 +234,7 @@ fn walk_frame(
 ) -> Pass
     requires { ⌜ (base + length (now frame) ≤ mostBytes) × (count ≤ mostCount) × Room (mostRules * length (now frame)) (now sums) ⌝ }
     ensures pass { λ r. ⌜ r ≡ framePass (moveOf (now (goto .entry)) (now (fall .entry)) (now (out .entry)) n) base (now (frame .entry)) ⌝ }
-    ensures adds { λ r. ⌜ After r (now (sums .exit)) (addAll count (frameRules (moveOf (now (goto .entry)) (now (fall .entry)) (now (out .entry)) n) (now (frame .entry))) (now (sums .entry))) ⌝ }
+    ensures adds { λ r. ⌜ After r (now (sums .exit)) (addAll count (frameRules (moveOf (now (goto .entry)) (now (fall .entry)) (now (out .entry)) n) (rulesAt (now (out .entry))) (now (frame .entry))) (now (sums .entry))) ⌝ }
 {
     let mut row = 0;
     let mut at = 0;
@@ -228,9 +243,9 @@ fn walk_frame(
             walk::Moved::Reached {
                 row: next,
                 falls: _,
-                rules,
             } => {
-                add(rules, count, sums);
+                let rules = walk::rules(out, next);
+                add(&rules, count, sums);
                 row = next;
                 at += 1;
             }
@@ -253,7 +268,7 @@ fn walk_stack(
 ) -> Pass
     requires { ⌜ (base + length (now stack) ≤ mostBytes) × (count ≤ mostCount) × Room (mostRules * length (now stack)) (now sums) ⌝ }
     ensures pass { λ r. ⌜ r ≡ stackPass (moveOf (now (goto .entry)) (now (fall .entry)) (now (out .entry)) n) base (now (stack .entry)) ⌝ }
-    ensures adds { λ r. ⌜ After r (now (sums .exit)) (addAll count (stackRules (moveOf (now (goto .entry)) (now (fall .entry)) (now (out .entry)) n) (now (stack .entry))) (now (sums .entry))) ⌝ }
+    ensures adds { λ r. ⌜ After r (now (sums .exit)) (addAll count (stackRules (moveOf (now (goto .entry)) (now (fall .entry)) (now (out .entry)) n) (rulesAt (now (out .entry))) (now (stack .entry))) (now (sums .entry))) ⌝ }
 {
     let mut at = 0;
     while at < stack.len() {
@@ -280,7 +295,7 @@ fn walk_line(
 ) -> Pass
     requires { ⌜ (base + length (now line) ≤ mostBytes) × Room (mostRules * length (now line)) (now sums) ⌝ }
     ensures pass { λ r. ⌜ r ≡ linePass (moveOf (now (goto .entry)) (now (fall .entry)) (now (out .entry)) n) base (now (line .entry)) ⌝ }
-    ensures adds { λ r. ⌜ After r (now (sums .exit)) (lineSums (moveOf (now (goto .entry)) (now (fall .entry)) (now (out .entry)) n) (now (line .entry)) (now (sums .entry))) ⌝ }
+    ensures adds { λ r. ⌜ After r (now (sums .exit)) (lineSums (moveOf (now (goto .entry)) (now (fall .entry)) (now (out .entry)) n) (rulesAt (now (out .entry))) (now (line .entry)) (now (sums .entry))) ⌝ }
 {
     match read_line(line) {
         Line::Sound { stack, count } => walk_stack(
@@ -308,7 +323,7 @@ fn walk_lines(
 ) -> Pass
     requires { ⌜ (length (now profile) ≤ mostBytes) × Room (mostRules * length (now profile)) (now sums) ⌝ }
     ensures pass { λ r. ⌜ r ≡ linesPass (moveOf (now (goto .entry)) (now (fall .entry)) (now (out .entry)) n) (now (profile .entry)) ⌝ }
-    ensures adds { λ r. ⌜ After r (now (sums .exit)) (linesSums (moveOf (now (goto .entry)) (now (fall .entry)) (now (out .entry)) n) (now (profile .entry)) (now (sums .entry))) ⌝ }
+    ensures adds { λ r. ⌜ After r (now (sums .exit)) (linesSums (moveOf (now (goto .entry)) (now (fall .entry)) (now (out .entry)) n) (rulesAt (now (out .entry))) (now (profile .entry)) (now (sums .entry))) ⌝ }
 {
     let mut at = 0;
     while at < profile.len() {
@@ -349,7 +364,7 @@ pub fn tally(
     sums: &mut [u64],
 ) -> Tallied
     ensures answer { λ r. ⌜ r ≡ tallyOf (five (now (goto .entry)) (now (fall .entry)) (now (held .entry)) (now (live .entry)) (now (out .entry))) n (now (profile .entry)) (length (now (sums .entry))) ⌝ }
-    ensures buffer { λ r. ⌜ now (sums .exit) ≡ bufferOf r (sumsOf (moveOf (now (goto .entry)) (now (fall .entry)) (now (out .entry)) n) (now (profile .entry))) (now (sums .entry)) ⌝ }
+    ensures buffer { λ r. ⌜ now (sums .exit) ≡ bufferOf r (sumsOf (moveOf (now (goto .entry)) (now (fall .entry)) (now (out .entry)) n) (rulesAt (now (out .entry))) (now (profile .entry))) (now (sums .entry)) ⌝ }
 {
     if Book::TEXT < profile.len() {
         return Tallied::TooLong;

@@ -14,7 +14,7 @@ use Rattle.meaning.specs.Standing.{held}
 use Rattle.meaning.specs.Falls.{fallsIn}
 use Rattle.meaning.specs.Tables.{noEntry}
 use Rattle.meaning.proofs.Falls.{fallsIn-le}
-use Rattle.meaning.proofs.Looks.{row-held, row-first}
+use Rattle.meaning.proofs.Looks.{row-held, row-first, row-out}
 use Rattle.book.specs.Limits.{mostBytes}
 use Rattle.build.specs.Promise.{lent}
 use Rattle.walk.specs.declared.Counted.{Counted}
@@ -75,8 +75,9 @@ refuses w = refusals w
 pub moves : Moves
 moves r b n tables lends t i c x byte =
     let few : n ≤ noEntry = omega arith in
-    let enough : Lent (b .goto) (b .fall) (b .out) n = record { few = omega arith; entries = omega arith; falls = omega arith; outs = omega arith } in
-    rw (long-enough (b .goto) (b .fall) (b .out) n i enough (at-below tables few x)) (move tables few c x byte)
+    let enough : Lent (b .goto) (b .fall) n = record { few = omega arith; entries = omega arith; falls = omega arith } in
+    let (e, m, y) = move tables few c x byte in
+    (e, rw (long-enough (b .goto) (b .fall) (b .out) n i enough (omega arith) (at-below tables few x)) m, row-out tables y, y)
 
 -- ---- the run
 

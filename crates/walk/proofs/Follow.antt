@@ -8,7 +8,6 @@ use native.Mathlib.Omega.{arith}
 use lib.ListN.{length}
 use Rattle.rows.specs.Rows.{ByteText, IsRow}
 use Rattle.rows.proofs.Rows.{row-same}
-use Rattle.sets.specs.Table.{rulesAt}
 use Rattle.meaning.specs.Rules.{Rules}
 use Rattle.meaning.specs.Standing.{Same, out}
 use Rattle.meaning.specs.Falls.{falls, fallsIn}
@@ -32,27 +31,27 @@ module _ {r : Rules} {b : Five} {n : ℕ} (tables : Tables r b n) (rows : n ≤ 
 
   -- one byte's move, by induction on the falls
   move-in : (k : ℕ) {t : List ℕ} {i : ℕ} (c h : ℕ) → i < k → At t i → c < 256
-      → (e : ℕ) × (moveFrom (b .goto) (b .fall) (b .out) n i c h ≡ Reached e (h + falls r t c) (rulesAt (b .out) e)) × At (c ∷ t) e
+      → (e : ℕ) × (moveFrom (b .goto) (b .fall) n i c h ≡ Reached e (h + falls r t c)) × At (c ∷ t) e
   move-in zero c h l x byte = absurd (omega arith)
   move-in (suc k) {t} {i} c h l x byte =
       elim (look (tables-linked tables rows) byte (at-below x) x) [
         | ahead ne y z ↦ (
           gotoAt (b .goto) i c,
-          first-go (b .goto) (b .fall) (b .out) n i c h refl ne (at-below y) ∙ rw (z, add-zero),
+          first-go (b .goto) (b .fall) n i c h refl ne (at-below y) ∙ rw (z, add-zero),
           y,
         )
         | behind q d y same z ↦
             let (e, m, w) = move-in k c (h + 1) (omega arith) y byte in
             let one : h + falls r t c ≡ h + 1 + falls r (shorter r t) c = omega arith in (
               e,
-              first-fall (b .goto) (b .fall) (b .out) n i c h refl refl q d ∙ rw one m,
+              first-fall (b .goto) (b .fall) n i c h refl refl q d ∙ rw one m,
               row-same (congruence r) same w,
             )
       ]
 
   pub move : {t : List ℕ} {i : ℕ} (c : ℕ) → At t i → c < 256
-      → (e : ℕ) × (moveFrom (b .goto) (b .fall) (b .out) n i c 0 ≡ Reached e (falls r t c) (out r (c ∷ t))) × At (c ∷ t) e
-  move {i} c x byte = let (e, m, y) = move-in (suc i) c 0 (omega arith) x byte in (e, m ∙ rw (zero-add, row-out tables y), y)
+      → (e : ℕ) × (moveFrom (b .goto) (b .fall) n i c 0 ≡ Reached e (falls r t c)) × At (c ∷ t) e
+  move {i} c x byte = let (e, m, y) = move-in (suc i) c 0 (omega arith) x byte in (e, m ∙ rw zero-add, y)
 
   -- a run over what is left of a text: its last row, its reports, and its fallbacks
   pub record Followed (at : ℕ) (t : List ℕ) (i : ℕ) (text : List ℕ) : Type 0 where

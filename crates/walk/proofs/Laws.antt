@@ -15,7 +15,7 @@ use borrow.Author.Tests.{lt-leb, le-leb, leb-false, le-ltb, ltb-false, eq-eqb, n
 use Rattle.rows.proofs.Compare.{less, equal, more, order}
 use Rattle.sets.specs.Sets.{reports as pairs}
 use Rattle.sets.proofs.Members.{reports-length}
-use Rattle.sets.specs.Table.{rowWords, rulesAt}
+use Rattle.sets.specs.Table.{rowWords}
 use Rattle.meaning.specs.Tables.{noEntry, Five, gotoAt}
 use Rattle.book.specs.Limits.{mostRows, mostBytes}
 use Rattle.build.specs.Promise.{lent}
@@ -76,69 +76,69 @@ module _ (n row entry to : ℕ) where
 -- ---- one byte's move
 
 -- two ways on from a fall that agree at each lower row
-on-look-same : (out : List ℕ) (n row falls : ℕ) (l : Looked) (k j : ℕ → Moved) → Sound n row l → ((f : ℕ) → f < row → k f ≡ j f)
-    → onLook out l falls k ≡ onLook out l falls j
-on-look-same out n row falls (Go e) k j s h = refl
-on-look-same out n row falls (Fall f) k j s h = h f s
-on-look-same out n row falls Wrong k j s h = refl
+on-look-same : (n row falls : ℕ) (l : Looked) (k j : ℕ → Moved) → Sound n row l → ((f : ℕ) → f < row → k f ≡ j f)
+    → onLook l falls k ≡ onLook l falls j
+on-look-same n row falls (Go e) k j s h = refl
+on-look-same n row falls (Fall f) k j s h = h f s
+on-look-same n row falls Wrong k j s h = refl
 
 -- a move reaches one of the n rows
 abbrev pub Within : ℕ → Moved → Type 0
-Within n (Reached row falls rules) = row < n
+Within n (Reached row falls) = row < n
 Within n Lost = Unit {0}
 
-within-look : (out : List ℕ) (n row falls : ℕ) (l : Looked) (k : ℕ → Moved) → Sound n row l → ((f : ℕ) → Within n (k f)) → Within n (onLook out l falls k)
-within-look out n row falls (Go e) k s h = s
-within-look out n row falls (Fall f) k s h = h f
-within-look out n row falls Wrong k s h = tt
+within-look : (n row falls : ℕ) (l : Looked) (k : ℕ → Moved) → Sound n row l → ((f : ℕ) → Within n (k f)) → Within n (onLook l falls k)
+within-look n row falls (Go e) k s h = s
+within-look n row falls (Fall f) k s h = h f
+within-look n row falls Wrong k s h = tt
 
 at-sound : (goto fall : List ℕ) (n row c : ℕ) → Sound n row (lookAt goto fall n row c)
 unfolding lookAt
 at-sound goto fall n row c = look-sound n row (gotoAt goto row c) (getD fall row 0)
 
-module _ (goto fall out : List ℕ) (n : ℕ) where
-  within-in : (k row c falls : ℕ) → Within n (moveIn goto fall out n k row c falls)
+module _ (goto fall : List ℕ) (n : ℕ) where
+  within-in : (k row c falls : ℕ) → Within n (moveIn goto fall n k row c falls)
   unfolding moveIn
   within-in zero row c falls = tt
-  within-in (suc k) row c falls = within-look out n row falls (lookAt goto fall n row c) _ (at-sound goto fall n row c) (λ f. within-in k f c (falls + 1))
+  within-in (suc k) row c falls = within-look n row falls (lookAt goto fall n row c) _ (at-sound goto fall n row c) (λ f. within-in k f c (falls + 1))
 
-  pub move-within : (row c falls : ℕ) → Within n (moveFrom goto fall out n row c falls)
+  pub move-within : (row c falls : ℕ) → Within n (moveFrom goto fall n row c falls)
   unfolding moveFrom
   move-within row c falls = within-in (suc row) row c falls
 
   -- what a move r that is m tells
-  pub moved : (row c falls : ℕ) {r m : Moved} → r ≡ moveFrom goto fall out n row c falls → r ≡ m → Within n m × (moveFrom goto fall out n row c falls ≡ m)
+  pub moved : (row c falls : ℕ) {r m : Moved} → r ≡ moveFrom goto fall n row c falls → r ≡ m → Within n m × (moveFrom goto fall n row c falls ≡ m)
   moved row c falls p q = (rw (← q, p) (move-within row c falls), rw (← p) q)
 
   -- looks beyond `row + 1` change nothing
-  enough : (k j row c falls : ℕ) → row < k → row < j → moveIn goto fall out n k row c falls ≡ moveIn goto fall out n j row c falls
+  enough : (k j row c falls : ℕ) → row < k → row < j → moveIn goto fall n k row c falls ≡ moveIn goto fall n j row c falls
   unfolding moveIn
   enough zero j row c falls h g = absurd (omega arith)
   enough (suc k) zero row c falls h g = absurd (omega arith)
   enough (suc k) (suc j) row c falls h g =
-      on-look-same out n row falls (lookAt goto fall n row c) _ _ (at-sound goto fall n row c) (λ f s.
+      on-look-same n row falls (lookAt goto fall n row c) _ _ (at-sound goto fall n row c) (λ f s.
       enough k j f c (falls + 1) (omega arith) (omega arith))
 
-  move-look : (row c falls : ℕ) → moveFrom goto fall out n row c falls ≡ onLook out (lookAt goto fall n row c) falls (λ f. moveFrom goto fall out n f c (falls + 1))
+  move-look : (row c falls : ℕ) → moveFrom goto fall n row c falls ≡ onLook (lookAt goto fall n row c) falls (λ f. moveFrom goto fall n f c (falls + 1))
   unfolding moveFrom
   move-look row c falls =
-      on-look-same out n row falls (lookAt goto fall n row c) _ _ (at-sound goto fall n row c) (λ f s. enough row (suc f) f c (falls + 1) s (omega arith))
+      on-look-same n row falls (lookAt goto fall n row c) _ _ (at-sound goto fall n row c) (λ f s. enough row (suc f) f c (falls + 1) s (omega arith))
 
   -- a move by its first look
   module _ (row c falls : ℕ) {entry : ℕ} (p : entry ≡ gotoAt goto row c) where
     look-is : (to : ℕ) (l : Looked) → to ≡ getD fall row 0 → lookOf n row entry to ≡ l
-        → moveFrom goto fall out n row c falls ≡ onLook out l falls (λ f. moveFrom goto fall out n f c (falls + 1))
+        → moveFrom goto fall n row c falls ≡ onLook l falls (λ f. moveFrom goto fall n f c (falls + 1))
     unfolding lookAt
     look-is to l q e = move-look row c falls ∙ rw (← p, ← q, e)
 
-    pub first-go : entry ≢ noEntry → entry < n → moveFrom goto fall out n row c falls ≡ Reached entry falls (rulesAt out entry)
+    pub first-go : entry ≢ noEntry → entry < n → moveFrom goto fall n row c falls ≡ Reached entry falls
     first-go ne h = look-is (getD fall row 0) (Go entry) refl (look-go n row entry (getD fall row 0) ne h)
 
     pub first-fall : {to : ℕ} → to ≡ getD fall row 0 → entry ≡ noEntry → to < row
-        → moveFrom goto fall out n row c falls ≡ moveFrom goto fall out n to c (falls + 1)
+        → moveFrom goto fall n row c falls ≡ moveFrom goto fall n to c (falls + 1)
     first-fall {to} q e h = look-is to (Fall to) q (look-fall n row entry to e h)
 
-    pub first-wrong : {to : ℕ} → to ≡ getD fall row 0 → unwritten n row entry to ≡ true → moveFrom goto fall out n row c falls ≡ Lost
+    pub first-wrong : {to : ℕ} → to ≡ getD fall row 0 → unwritten n row entry to ≡ true → moveFrom goto fall n row c falls ≡ Lost
     first-wrong {to} q e = look-is to Wrong q (rw e)
 
 -- ---- tables that are long enough
@@ -148,19 +148,20 @@ or-none true b e = absurd (true≢false e)
 or-none false b e = (refl, e)
 
 module _ (goto fall out : List ℕ) (n row : ℕ) where
-  pub not-short : isShort goto fall out n row ≡ false → Lent goto fall out n × (row < n)
+  pub not-short : isShort goto fall out n row ≡ false → Lent goto fall n × (rowWords * n ≤ length out) × (row < n)
   not-short e =
       let (e4, outs) = or-none (leb n row || ltb mostRows n || ltb (length goto) (256 * n) || ltb (length fall) n) (ltb (length out) (rowWords * n)) e in
       let (e3, falls) = or-none (leb n row || ltb mostRows n || ltb (length goto) (256 * n)) (ltb (length fall) n) e4 in
       let (e2, entries) = or-none (leb n row || ltb mostRows n) (ltb (length goto) (256 * n)) e3 in
       let (below, few) = or-none (leb n row) (ltb mostRows n) e2 in (
-        record { few = ltb-false _ _ few; entries = ltb-false _ _ entries; falls = ltb-false _ _ falls; outs = ltb-false _ _ outs },
+        record { few = ltb-false _ _ few; entries = ltb-false _ _ entries; falls = ltb-false _ _ falls },
+        ltb-false _ _ outs,
         leb-false _ _ below,
       )
 
-  pub long-enough : Lent goto fall out n → row < n → isShort goto fall out n row ≡ false
-  long-enough x h =
-      rw (lt-leb n row h, le-ltb mostRows n (x .few), le-ltb (length goto) (256 * n) (x .entries), le-ltb (length fall) n (x .falls), le-ltb (length out) (rowWords * n) (x .outs))
+  pub long-enough : Lent goto fall n → rowWords * n ≤ length out → row < n → isShort goto fall out n row ≡ false
+  long-enough x o h =
+      rw (lt-leb n row h, le-ltb mostRows n (x .few), le-ltb (length goto) (256 * n) (x .entries), le-ltb (length fall) n (x .falls), le-ltb (length out) (rowWords * n) o)
 
 -- ---- a run, byte by byte
 
@@ -171,7 +172,7 @@ module _ (goto fall out : List ℕ) (n : ℕ) (text : List ℕ) (at row : ℕ) w
   run-end falls made h = rw drop-of-length-le
 
   -- a byte's part in a run, where its move is m
-  pub run-move : (falls made : ℕ) (m : Moved) → at < length text → moveFrom goto fall out n row (getD text at 0) 0 ≡ m
+  pub run-move : (falls made : ℕ) (m : Moved) → at < length text → moveFrom goto fall n row (getD text at 0) 0 ≡ m
       → runFrom goto fall out n at row falls made (drop at text)
       ≡ onMove m (λ to more. runFrom goto fall out n (at + 1) to (falls + more) (made + length (reported out to)) (drop (at + 1) text)) (Stopped at)
   unfolding runFrom
@@ -182,7 +183,7 @@ module _ (goto fall out : List ℕ) (n : ℕ) (text : List ℕ) (at row : ℕ) w
   unfolding reportsFrom
   reports-end h = rw drop-of-length-le
 
-  pub reports-move : (m : Moved) → at < length text → moveFrom goto fall out n row (getD text at 0) 0 ≡ m
+  pub reports-move : (m : Moved) → at < length text → moveFrom goto fall n row (getD text at 0) 0 ≡ m
       → reportsFrom goto fall out n at row (drop at text)
       ≡ onMove m (λ to more. pairs (at + 1) (reported out to) ++ reportsFrom goto fall out n (at + 1) to (drop (at + 1) text)) []
   unfolding reportsFrom
@@ -208,7 +209,7 @@ module _ (goto fall out : List ℕ) (n : ℕ) where
       → ((to falls made : ℕ) → to < n → Right n made (reportsFrom goto fall out n (at + 1) to text) (runFrom goto fall out n (at + 1) to falls made text))
       → Right n made (onMove m (λ to more. pairs (at + 1) (reported out to) ++ reportsFrom goto fall out n (at + 1) to text) [])
       (onMove m (λ to more. runFrom goto fall out n (at + 1) to (falls + more) (made + length (reported out to)) text) (Stopped at))
-  right-move at falls made text (Reached to added rules) w h =
+  right-move at falls made text (Reached to added) w h =
       let total = made + length (reported out to) in
       right-more n made (at + 1) (reported out to) (reportsFrom goto fall out n (at + 1) to text) (runFrom goto fall out n (at + 1) to (falls + added) total text)
       (h to (falls + added) total w)
@@ -219,7 +220,7 @@ module _ (goto fall out : List ℕ) (n : ℕ) where
   unfolding runFrom reportsFrom
   run-right [] at row falls made h = (h, omega arith)
   run-right (c ∷ text) at row falls made h =
-      right-move at falls made text (moveFrom goto fall out n row c 0) (move-within goto fall out n row c 0) (λ to f m w. run-right text (at + 1) to f m w)
+      right-move at falls made text (moveFrom goto fall n row c 0) (move-within goto fall n row c 0) (λ to f m w. run-right text (at + 1) to f m w)
 
   -- what a whole run r that is q tells
   pub counted : (text : List ℕ) {r q : Counted} → 0 < n → r ≡ runOf goto fall out n text → r ≡ q → Right n 0 (reportsOf goto fall out n text) q

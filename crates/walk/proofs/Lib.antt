@@ -1,5 +1,6 @@
 -- What the proofs of `walk` share, and the theorems: Demands and Whole. Assumes nothing.
 pub mod Laws
+pub mod Rows
 pub mod Room
 pub mod Lists
 pub mod Occurrences

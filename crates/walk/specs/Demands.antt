@@ -7,15 +7,17 @@ use mathlib.Core.List.{List, [], _∷_, reverse}
 use Prim.Native.Nat.{ℕ, _+_, _-_, _*_, _/_, _≤_, _<_}
 use lib.ListN.{length, getD}
 use Rattle.rows.specs.Rows.{ByteText, IsRow}
+use Rattle.sets.specs.Table.{rulesAt}
 use Rattle.meaning.specs.Rules.{Rules, count, size, symbol, fits}
 use Rattle.meaning.specs.Standing.{Same, held, out}
 use Rattle.meaning.specs.Falls.{falls, fallsIn}
 use Rattle.meaning.specs.Tables.{Five, Tables}
 use Rattle.book.specs.Limits.{mostRules, mostBytes}
 use Rattle.build.specs.Promise.{lent}
+use Rattle.walk.specs.declared.Counted.the-variants.{Read}
 use Rattle.walk.specs.declared.Moved.the-variants.{Reached}
 use Rattle.walk.specs.declared.Walked.{Walked}
-use Rattle.walk.specs.Walk.{moveOf, reportsOf, looksFrom, goings, walkOf, bufferOf, numberOf, valuesOf}
+use Rattle.walk.specs.Walk.{moveOf, runOf, reportsOf, looksFrom, goings, walkOf, bufferOf, numberOf, valuesOf}
 
 -- ---- occurrences, and lists of reports
 
@@ -68,7 +70,7 @@ abbrev pub after : Call → List ℕ
 after w = bufferOf (answer w) (reportsOf (w .tables .goto) (w .tables .fall) (w .tables .out) (w .n) (w .text)) (w .reports)
 
 abbrev pub forward : Call → ℕ
-forward w = goings (looksFrom (w .tables .goto) (w .tables .fall) (w .tables .out) (w .n) 0 (w .text))
+forward w = goings (looksFrom (w .tables .goto) (w .tables .fall) (w .n) 0 (w .text))
 
 -- it answers with this number and these values
 pub record Answers (w : Call) (number : ℕ) (values : List ℕ) : Type 0 where
@@ -87,13 +89,17 @@ pub record Refusals (w : Call) : Type 0 where
 abbrev pub Refuses : Type 0
 Refuses = (w : Call) → Refusals w
 
+-- A run makes at most as many reports a byte as there may be rules.
+abbrev pub FewReports : Type 0
+FewReports = (goto fall out text : List ℕ) (n made falls row : ℕ) → runOf goto fall out n text ≡ Read made falls row → made ≤ mostRules * length text
+
 -- ---- over the tables of rules
 
 -- One byte's move, from the row of the text t that is read, its latest byte first: it reaches the row of the longer text, after the fallbacks that
--- rules and text determine, and answers the rules that end there.
+-- rules and text determine, and the rules of that row are those that end there.
 abbrev pub Moves : Type 0
 Moves = (r : Rules) (b : Five) (n : ℕ) (tables : Tables r b n) → n ≤ lent b → (t : List ℕ) (i c : ℕ) → IsRow (Same r) (tables .texts) t i → c < 256
-    → (e : ℕ) × (moveOf (b .goto) (b .fall) (b .out) n i c ≡ Reached e (falls r t c) (out r (c ∷ t))) × IsRow (Same r) (tables .texts) (c ∷ t) e
+    → (e : ℕ) × (moveOf (b .goto) (b .fall) (b .out) n i c ≡ Reached e (falls r t c)) × (rulesAt (b .out) e ≡ out r (c ∷ t)) × IsRow (Same r) (tables .texts) (c ∷ t) e
 
 -- A call over the tables of the rules, with a text of bytes.
 pub record Over (r : Rules) (w : Call) : Type 0 where

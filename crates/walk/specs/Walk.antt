@@ -19,16 +19,16 @@ use Rattle.walk.specs.declared.Walked.the-variants.{Accepted, TooLong, B
 
 -- ---- what the tables lend
 
--- n rows of entries, of falls and of out sets
-pub record Lent (goto fall out : List ℕ) (n : ℕ) : Type 0 where
+-- n rows of entries and of falls
+pub record Lent (goto fall : List ℕ) (n : ℕ) : Type 0 where
   pub few : n ≤ mostRows
   pub entries : 256 * n ≤ length goto
   pub falls : n ≤ length fall
-  pub outs : rowWords * n ≤ length out
 
 -- tables and a text that a walk gets to run over
 pub record Walkable (goto fall out : List ℕ) (n : ℕ) (text : List ℕ) : Type 0 where
-  pub lent : Lent goto fall out n
+  pub lent : Lent goto fall n
+  pub outs : rowWords * n ≤ length out
   pub some : 0 < n
   pub short : length text ≤ mostBytes
 
@@ -56,36 +56,37 @@ lookAt goto fall n row c = lookOf n row (gotoAt goto row c) (getD fall row 0)
 
 -- ---- one byte's move
 
--- the row that the look goes to, after so many falls, with its out; or k of the row that it falls to
-abbrev pub onLook : List ℕ → Looked → ℕ → (ℕ → Moved) → Moved
-onLook out (Go e) falls k = Reached e falls (rulesAt out e)
-onLook out (Fall f) falls k = k f
-onLook out Wrong falls k = Lost
+-- the row that the look goes to, after so many falls; or k of the row that it falls to
+abbrev pub onLook : Looked → ℕ → (ℕ → Moved) → Moved
+onLook (Go e) falls k = Reached e falls
+onLook (Fall f) falls k = k f
+onLook Wrong falls k = Lost
 
-module _ (goto fall out : List ℕ) (n : ℕ) where
+module _ (goto fall : List ℕ) (n : ℕ) where
   -- At most so many looks, until one is no fall; the falls are counted.
   unfoldable pub moveIn : ℕ → ℕ → ℕ → ℕ → Moved
   moveIn zero row c falls = Lost
-  moveIn (suc k) row c falls = onLook out (lookAt goto fall n row c) falls (λ f. moveIn k f c (falls + 1))
+  moveIn (suc k) row c falls = onLook (lookAt goto fall n row c) falls (λ f. moveIn k f c (falls + 1))
 
   -- The move on the byte c, after so many falls. Each fall is to a lower row, so `row + 1` looks are enough.
   unfoldable pub moveFrom : ℕ → ℕ → ℕ → Moved
   unfolding moveIn
   moveFrom row c falls = moveIn (suc row) row c falls
 
+module _ (goto fall out : List ℕ) (n : ℕ) where
   -- the row is none of n rows, or no tables have so many, or these have fewer
   abbrev pub isShort : ℕ → Bool
   isShort row = leb n row || ltb mostRows n || ltb (length goto) (256 * n) || ltb (length fall) n || ltb (length out) (rowWords * n)
 
   -- One byte's move, from any row over any tables.
   abbrev pub moveOf : ℕ → ℕ → Moved
-  moveOf row c = cond (isShort row) Lost (moveFrom row c 0)
+  moveOf row c = cond (isShort row) Lost (moveFrom goto fall n row c 0)
 
 -- ---- the run over a text
 
 -- f of the row that the move reached and of its fallbacks, or z where it is lost
 abbrev pub onMove : {A : Type 0} → Moved → (ℕ → ℕ → A) → A → A
-onMove (Reached row falls rules) f z = f row falls
+onMove (Reached row falls) f z = f row falls
 onMove Lost f z = z
 
 -- The rules of a row's out, ascending.
@@ -97,13 +98,13 @@ module _ (goto fall out : List ℕ) (n : ℕ) where
   unfoldable pub runFrom : ℕ → ℕ → ℕ → ℕ → List ℕ → Counted
   runFrom at row falls made [] = Read made falls row
   runFrom at row falls made (c ∷ text) =
-      onMove (moveFrom goto fall out n row c 0) (λ to more. runFrom (at + 1) to (falls + more) (made + length (reported out to)) text) (Stopped at)
+      onMove (moveFrom goto fall n row c 0) (λ to more. runFrom (at + 1) to (falls + more) (made + length (reported out to)) text) (Stopped at)
 
   -- The reports of the same run: two numbers each, the end and the rule.
   unfoldable pub reportsFrom : ℕ → ℕ → List ℕ → List ℕ
   reportsFrom at row [] = []
   reportsFrom at row (c ∷ text) =
-      onMove (moveFrom goto fall out n row c 0) (λ to more. pairs (at + 1) (reported out to) ++ reportsFrom (at + 1) to text) []
+      onMove (moveFrom goto fall n row c 0) (λ to more. pairs (at + 1) (reported out to) ++ reportsFrom (at + 1) to text) []
 
   -- The run over a whole text starts in row 0.
   abbrev pub runOf : List ℕ → Counted
@@ -120,7 +121,7 @@ afterLook (Go e) k = []
 afterLook (Fall f) k = k f
 afterLook Wrong k = []
 
-module _ (goto fall out : List ℕ) (n : ℕ) where
+module _ (goto fall : List ℕ) (n : ℕ) where
   -- the looks of a byte's move, in order, as many as `moveIn` makes
   unfoldable pub looksIn : ℕ → ℕ → ℕ → List Looked
   looksIn zero row c = []
@@ -129,7 +130,7 @@ module _ (goto fall out : List ℕ) (n : ℕ) where
   -- those of the run over a text
   unfoldable pub looksFrom : ℕ → List ℕ → List Looked
   looksFrom row [] = []
-  looksFrom row (c ∷ text) = looksIn (suc row) row c ++ onMove (moveFrom goto fall out n row c 0) (λ to more. looksFrom to text) []
+  looksFrom row (c ∷ text) = looksIn (suc row) row c ++ onMove (moveFrom goto fall n row c 0) (λ to more. looksFrom to text) []
 
 -- how many of them go on
 unfoldable pub goings : List Looked → ℕ

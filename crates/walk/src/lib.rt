@@ -1,11 +1,13 @@
 // The walk over tables: one look, one byte's move, and the walk over a text.
 
 use book::Book;
+use sets::Set;
+use sets::WORDS;
 ghost use mathlib.Core.Path.{_≡_};
-ghost use Prim.Native.Nat.{_+_, _*_, _≤_, _<_};
+ghost use Prim.Native.Nat.{suc, _+_, _*_, _≤_, _<_};
 ghost use lib.ListN.{length, getD};
 ghost use lib.Seq.{sets as stored};
-ghost use Rattle.sets.specs.Sets.{reports as pairs};
+ghost use Rattle.sets.specs.Sets.{setOf, reports as pairs};
 ghost use Rattle.sets.specs.Table.{rowWords, rulesAt};
 ghost use Rattle.meaning.specs.Tables.{gotoAt};
 ghost use Rattle.book.specs.Limits.{mostRules};
@@ -15,13 +17,9 @@ ghost use Rattle.walk.specs.Walk.{Lent, Walkable, unwritten, moveFrom, i
 // The entry that says: fall back.
 const NO_ENTRY: usize = 65535;
 
-// One byte's move: the row reached, the fallbacks on the way and the row's out; or an entry that no build writes.
+// One byte's move: the row reached and the fallbacks on the way, or an entry that no build writes.
 pub enum Moved {
-    Reached {
-        row: usize,
-        falls: usize,
-        rules: u64,
-    },
+    Reached { row: usize, falls: usize },
     Lost,
 }
 
@@ -117,36 +115,49 @@ fn is_unwritten(n: usize, row: usize, entry: usize, to: usize) -> bool
     n <= entry
 }
 
-// The rules that a row reports, and how many they are.
-fn rules(out: &[u64], row: usize) -> u64
-    requires { ⌜ rowWords * row < length (now out) ⌝ }
-    ensures { λ r. ⌜ r ≡ rulesAt (now (out .entry)) row ⌝ }
+// The rules that a row reports; none where the table has no such row.
+pub fn rules(out: &[u64], row: usize) -> Set
+    ensures { λ r. ⌜ (setOf r ≡ rulesAt (now (out .entry)) row) × (length r ≡ rowWords) ⌝ }
 {
-    out[row]
+    let mut set = sets::none();
+    if out.len() <= row {
+        return set;
+    }
+    let start = WORDS * row;
+    let mut i: usize = 0;
+    while i < WORDS {
+        set[i] = sets::word(out, start + i);
+        i += 1;
+    }
+    set
 }
 
+// How many they are.
 fn many(out: &[u64], row: usize) -> usize
-    requires { ⌜ rowWords * row < length (now out) ⌝ }
+    requires { ⌜ rowWords * suc row ≤ length (now out) ⌝ }
     ensures { λ r. ⌜ (r ≡ length (reported (now (out .entry)) row)) × (r ≤ mostRules) ⌝ }
 {
-    sets::size(out[row]) as usize
+    let start = WORDS * row;
+    let mut all = 0;
+    let mut i: usize = 0;
+    while i < WORDS {
+        all += sets::size(out[start + i]) as usize;
+        i += 1;
+    }
+    all
 }
 
 // Looks until one is no fall.
-fn move_from(goto: &[u16], fall: &[u16], out: &[u64], n: usize, from: usize, byte: u8) -> Moved
-    requires { ⌜ Lent (now goto) (now fall) (now out) n × (from < n) ⌝ }
-    ensures { λ r. ⌜ r ≡ moveFrom (now (goto .entry)) (now (fall .entry)) (now (out .entry)) n from byte 0 ⌝ }
+fn move_from(goto: &[u16], fall: &[u16], n: usize, from: usize, byte: u8) -> Moved
+    requires { ⌜ Lent (now goto) (now fall) n × (from < n) ⌝ }
+    ensures { λ r. ⌜ r ≡ moveFrom (now (goto .entry)) (now (fall .entry)) n from byte 0 ⌝ }
 {
     let mut row = from;
     let mut falls = 0;
     loop {
         let entry = entry_at(goto, row, byte);
         if entry < n {
-            return Moved::Reached {
-                row: entry,
-                falls,
-                rules: rules(out, entry),
-            };
+            return Moved::Reached { row: entry, falls };
         }
         let to = fall_at(fall, row);
         if is_unwritten(n, row, entry, to) {
@@ -173,7 +184,7 @@ fn is_short(goto: &[u16], fall: &[u16], out: &[u64], n: usize, row: usize) -> bo
     if fall.len() < n {
         return true;
     }
-    out.len() < n
+    out.len() / WORDS < n
 }
 
 // One byte's move. Where the row is none of n rows, or the tables have fewer, it is lost too.
@@ -183,7 +194,7 @@ pub fn move_on(goto: &[u16], fall: &[u16], out: &[u64], n: usize, from: usize, b
     if is_short(goto, fall, out, n, from) {
         return Moved::Lost;
     }
-    move_from(goto, fall, out, n, from, byte)
+    move_from(goto, fall, n, from, byte)
 }
 
 // Whether the tables lend n rows, and n is not 0.
@@ -243,10 +254,17 @@ fn count(goto: &[u16], fall: &[u16], out: &[u64], n: usize, text: &[u8]) -> Coun
 
 // Writes (end, k) from reports[at] on for each rule k of a row, ascending, and answers where the next would go.
 fn report(out: &[u64], row: usize, end: u32, reports: &mut [u32], at: usize) -> usize
-    requires { ⌜ (rowWords * row < length (now out)) × (at + 2 * length (reported (now out) row) ≤ length (now reports)) ⌝ }
+    requires { ⌜ (rowWords * suc row ≤ length (now out)) × (at + 2 * length (reported (now out) row) ≤ length (now reports)) ⌝ }
     ensures { λ r. ⌜ (r ≡ at + 2 * length (reported (now (out .entry)) row)) × (now (reports .exit) ≡ stored (now (reports .entry)) at (pairs end (reported (now (out .entry)) row))) ⌝ }
 {
-    sets::write_members(out[row], end, reports, at)
+    let start = WORDS * row;
+    let mut to = at;
+    let mut i: usize = 0;
+    while i < WORDS {
+        to = sets::write_members(out[start + i], 64 * i as u16, end, reports, to);
+        i += 1;
+    }
+    to
 }
 
 // The second pass, up to the last of the reports, which fill `places` places.
@@ -267,11 +285,10 @@ fn write(
     let mut to = 0;
     let mut at = 0;
     while to < places {
-        match move_from(goto, fall, out, n, row, text[at]) {
+        match move_from(goto, fall, n, row, text[at]) {
             Moved::Reached {
                 row: next,
                 falls: _,
-                rules: _,
             } => {
                 row = next;
                 at += 1;

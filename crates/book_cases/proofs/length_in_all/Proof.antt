@@ -1,6 +1,7 @@
 -- `book_cases::length_in_all` meets its contract: at most 255 for each length. Assumes nothing.
 use Prim.Native.Nat.{_≤_, _*_, _-_}
 use borrow.Author.Needs.{needs}
+use Rattle.book.specs.Limits.{mostRules}
 use Rattle.book_cases.proofs.length_in_all.Statement.{statement}
 use Rattle.book_cases.proofs.length_in_all.Tie as tie
 
@@ -8,7 +9,7 @@ abbrev Inv-loop : tie.InvT-loop
 Inv-loop lengths sum₀ k₀ sum k = (sum ≤ 255 * k)
 
 abbrev μ-loop : tie.MeasureT-loop
-μ-loop lengths sum₀ k₀ sum k = 64 - k
+μ-loop lengths sum₀ k₀ sum k = mostRules - k
 
 loop-holds : tie.Need-loop-holds Inv-loop μ-loop
 loop-holds c = search needs

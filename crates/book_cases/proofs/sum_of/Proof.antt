@@ -1,6 +1,7 @@
 -- `book_cases::sum_of` meets its contract: at most 65535 for each symbol. Assumes nothing.
 use Prim.Native.Nat.{_≤_, _*_, _-_}
 use borrow.Author.Needs.{needs}
+use Rattle.book.specs.Limits.{places}
 use Rattle.book_cases.proofs.sum_of.Statement.{statement}
 use Rattle.book_cases.proofs.sum_of.Tie as tie
 
@@ -8,7 +9,7 @@ abbrev Inv-loop : tie.InvT-loop
 Inv-loop symbols sum₀ i₀ sum i = (sum ≤ 65535 * i)
 
 abbrev μ-loop : tie.MeasureT-loop
-μ-loop symbols sum₀ i₀ sum i = 64 * 64 - i
+μ-loop symbols sum₀ i₀ sum i = places - i
 
 loop-holds : tie.Need-loop-holds Inv-loop μ-loop
 loop-holds c = search needs

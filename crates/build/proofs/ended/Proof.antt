@@ -1,72 +1,68 @@
--- `ended` meets its contract: the set so far is that of the rules passed. Assumes nothing.
-use Prim.Native.Nat.{ℕ, _+_, _-_, _≤_}
-use mathlib.Core.Path.{_≡_, refl, sym, subst, _∙_}
-use mathlib.Core.Bool.{Bool, _&&_}
-use mathlib.Core.Logic.{⊎-elim}
-use native.Mathlib.Nat.{le-antisymm}
+-- `ended` meets its contract: the words made so far are those of the set, the others are empty. Assumes nothing.
+use Prim.Native.Nat.{_-_, _*_, _≤_}
+use mathlib.Core.Path.{sym, subst}
 use native.Mathlib.Omega.{arith}
-use borrow.Author.Tests.{eq-eqb, ne-eqb}
-use lib.ListN.{getD}
-use lib.Dec.{eqb}
-use Rattle.sets.specs.Sets.{has, setWhere}
-use Rattle.build.specs.Sets.{endedIn}
-use Rattle.build.proofs.Laws.{set-with, set-same}
+use lib.ListN.{replicate}
+use borrow.Author.Needs.{needs}
+use Rattle.sets.specs.Sets.{setOf, wordWhere}
+use Rattle.sets.specs.Table.{rowWords}
+use Rattle.sets.proofs.Writing.{Writing, writing-start, writing-next}
+use Rattle.build.specs.Sets.{endsIn}
+use Rattle.build.proofs.Laws.{is-word, words-made}
 use Rattle.build.proofs.ended.Statement.{statement}
 use Rattle.build.proofs.ended.Tie as tie
 
 abbrev Inv-loop : tie.InvT-loop
-Inv-loop lengths rules held set some₀ k₀ some k = (k ≤ rules) × (some ≡ endedIn lengths k held set)
+Inv-loop lengths rules held set some₀ i₀ some i = (i ≤ rowWords) × Writing (wordWhere rules (endsIn lengths held (setOf set))) (replicate rowWords 0) 0 i some
 
 abbrev μ-loop : tie.MeasureT-loop
-μ-loop lengths rules held set some₀ k₀ some k = rules - k
+μ-loop lengths rules held set some₀ i₀ some i = rules - 64 * i
+
+none-requires : tie.Need-none-requires Inv-loop μ-loop
+none-requires c κs = search needs
 
 loop-holds : tie.Need-loop-holds Inv-loop μ-loop
-unfolding setWhere
-loop-holds c = (omega arith, refl)
+loop-holds c = (omega arith, subst (Writing _ _ 0 0) (sym (c .none .ensures .0)) (writing-start _ 0))
 
-element-copy-out-if1 : tie.Need-element-copy-out-if1 Inv-loop μ-loop
-element-copy-out-if1 c = omega arith
+mul-loop : tie.Need-mul-loop Inv-loop μ-loop
+mul-loop c = search needs
 
-short : (c : tie.In-loop Inv-loop μ-loop) → getD (c .before .before .args .lengths .now) (c .before .loop .k) 0 ≤ 64
-short c = c .before .before .pre .short (c .before .loop .k)
+mul-ended-word : tie.Need-mul-ended-word Inv-loop μ-loop
+mul-ended-word c = search needs
 
-cast-if1 : tie.Need-cast-if1 Inv-loop μ-loop
-cast-if1 c = omega (arith, short (c .before))
+shared-slice-read-ended-word : tie.Need-shared-slice-read-ended-word Inv-loop μ-loop
+shared-slice-read-ended-word c = search needs
 
-cast-has : tie.Need-cast-has Inv-loop μ-loop
-cast-has c = omega arith
+ended-word-requires : tie.Need-ended-word-requires Inv-loop μ-loop
+ended-word-requires c κs = search needs
 
-has-requires : tie.Need-has-requires Inv-loop μ-loop
-has-requires c κs = omega arith
+mul-some : tie.Need-mul-some Inv-loop μ-loop
+mul-some c = search needs
 
-cast-with : tie.Need-cast-with Inv-loop μ-loop
-cast-with c = omega arith
+array-write-some : tie.Need-array-write-some Inv-loop μ-loop
+array-write-some c = search needs
 
-with-requires : tie.Need-with-requires Inv-loop μ-loop
-with-requires c κs = omega arith
-
-add-k : tie.Need-add-k Inv-loop μ-loop
-add-k c = omega arith
+add-i : tie.Need-add-i Inv-loop μ-loop
+add-i c = search needs
 
 loop-less : tie.Need-loop-less Inv-loop μ-loop
-loop-less c = omega arith
+loop-less c = search needs
 
 loop-again : tie.Need-loop-again Inv-loop μ-loop
 loop-again c =
     let l = c .before .before .before in
-    let a = l .before .args in
-    let p : ℕ → Bool = λ k. eqb (getD (a .lengths .now) k 0) (a .held) && has (a .set) k in (
-      omega arith,
-      ⊎-elim (λ w. subst (λ (s : ℕ). s ≡ setWhere (l .loop .k + 1) p) (sym (w .4)) (set-with p (l .loop .inv .1) (simp (eq-eqb _ _ (w .0 .taken), sym (w .1 .ensures) ∙ w .2 .taken)) (w .3 .ensures) (omega arith)))
-          (⊎-elim (λ w. subst (λ (s : ℕ). s ≡ setWhere (l .loop .k + 1) p) (sym (w .3)) (set-same p (l .loop .inv .1) (simp (eq-eqb _ _ (w .0 .taken), sym (w .1 .ensures) ∙ w .2 .left))))
-          (λ w. subst (λ (s : ℕ). s ≡ setWhere (l .loop .k + 1) p) (sym (w .1)) (set-same p (l .loop .inv .1) (simp (ne-eqb _ _ (w .0 .left)))))) (c .if1 .came),
-    )
+    let a = l .before .before .before in
+    let ws = a .args .set .now in
+    let i = l .loop .i in
+    let few = a .pre .0 .few in
+    (omega arith, writing-next (omega arith) (omega arith) (c .ended-word .ensures (setOf ws) (is-word ws (λ j. c .before .shared-slice-known2 .given j .fits) i)) (l .loop .inv .1))
 
 returns : tie.Need-returns Inv-loop μ-loop
 returns c =
     let l = c .before in
-    let a = l .before .args in
-    subst (λ (n : ℕ). l .loop .some ≡ endedIn (a .lengths .now) n (a .held) (a .set)) (le-antisymm (l .loop .inv .0) (c .loop-test .left)) (l .loop .inv .1)
+    let a = l .before .before .before in
+    let made = words-made (a .args .rules) _ (l .loop .i) (l .loop .some) (a .pre .0 .few) (c .loop-test .left) (l .loop .inv .1) in
+    made
 
 pub ended-spec : {M : Type 1} → statement M
 ended-spec =
@@ -74,14 +70,15 @@ ended-spec =
     (tie.spec
     Inv-loop
     μ-loop
+    none-requires
     loop-holds
-    element-copy-out-if1
-    cast-if1
-    cast-has
-    has-requires
-    cast-with
-    with-requires
-    add-k
+    mul-loop
+    mul-ended-word
+    shared-slice-read-ended-word
+    ended-word-requires
+    mul-some
+    array-write-some
+    add-i
     loop-less
     loop-again
     returns)

@@ -6,12 +6,13 @@ use native.Mathlib.Omega.{arith}
 use borrow.Author.Needs.{needs}
 use borrow.Author.Tests.{eqb-true, eq-eqb}
 use lib.ListN.{getD}
+use Rattle.sets.specs.Sets.{setOf}
 use Rattle.build.proofs.Chains.{Searched, searched-start, searched-next, searched-short, searched-end}
 use Rattle.build.proofs.find_row.Statement.{statement}
 use Rattle.build.proofs.find_row.Tie as tie
 
 abbrev Inv-loop : tie.InvT-loop
-Inv-loop fall held live first older n h l f i₀ i = (i < n) × Searched held live fall n h l f i
+Inv-loop fall held live first older n h l f i₀ i = (i < n) × Searched held live fall n h (setOf l) f i
 
 abbrev μ-loop : tie.MeasureT-loop
 μ-loop fall held live first older n h l f i₀ i = i
@@ -27,14 +28,14 @@ element-copy-out-i c = search needs
 
 -- the function's entry, from the loop's head
 abbrev start : tie.At-loop Inv-loop μ-loop → tie.Start Inv-loop μ-loop
-start l = l .before .before .before .before .before .before
+start l = l .before .before .before .before .before .before .before
 
 cast-i : tie.Need-cast-i Inv-loop μ-loop
-cast-i c = omega (arith, c .before .before .before .before .before .pre .1 .1 .heads (c .before .chain .result) .below)
+cast-i c = omega (arith, c .before .before .before .before .before .before .pre .1 .1 .heads (c .before .chain .result) .below)
 
 loop-holds : tie.Need-loop-holds Inv-loop μ-loop
 loop-holds c =
-    let k = c .before .before .before .before .before .pre .1 .1 in
+    let k = c .before .before .before .before .before .before .pre .1 .1 in
     rw (c .before .chain .ensures .0) (k .heads _ .below, searched-start (k .heads _))
 
 shared-slice-read-if1 : tie.Need-shared-slice-read-if1 Inv-loop μ-loop

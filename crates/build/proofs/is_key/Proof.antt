@@ -1,18 +1,40 @@
--- `is_key` meets its contract: one word is a row's set. Assumes nothing.
-use borrow.Author.Tests.{eq-eqb, ne-eqb}
-use Rattle.sets.proofs.Table.{rules-word}
+-- `is_key` meets its contract: a row's set is that of its words. Assumes nothing.
+use mathlib.Core.Path.{sym, _∙_}
+use Prim.Native.Nat.{_+_, _-_, _*_}
+use native.Mathlib.Omega.{arith}
 use borrow.Author.Needs.{needs}
+use borrow.Author.Tests.{not-true, not-false}
+use Rattle.sets.specs.Table.{rowWords}
+use Rattle.build.proofs.Steps.{same-row}
 use Rattle.build.proofs.is_key.Statement.{statement}
 use Rattle.build.proofs.is_key.Tie as tie
 
-mul-if1 : tie.Need-mul-if1
-mul-if1 c = search needs
+mul-start : tie.Need-mul-start
+mul-start c = search needs
 
-shared-slice-read-if1 : tie.Need-shared-slice-read-if1
-shared-slice-read-if1 c = search needs
+add-same : tie.Need-add-same
+add-same c = search needs
+
+mul-same : tie.Need-mul-same
+mul-same c = search needs
+
+sub-same : tie.Need-sub-same
+sub-same c = search needs
+
+part-same-start : tie.Need-part-same-start
+part-same-start c = search needs
+
+part-same-end : tie.Need-part-same-end
+part-same-end c = search needs
+
+same-requires : tie.Need-same-requires
+same-requires c κs = search needs
 
 returns : tie.Need-returns
-returns c = rw (rules-word, ne-eqb _ _ (c .if1 .taken))
+returns c =
+    let a = c .before .before .before .before .before .before in
+    let same = same-row {b = rowWords * a .args .i} {m = rowWords * a .args .i + rowWords - rowWords * a .args .i} (a .args .live .now) (a .args .l .now) (a .args .i) (c .before .same .ensures) (omega arith) (omega arith) (a .pre .1) (a .pre .2) in
+    rw (sym same ∙ not-true _ (c .if1 .taken))
 
 mul-result : tie.Need-mul-result
 mul-result c = search needs
@@ -21,9 +43,23 @@ shared-slice-read-result : tie.Need-shared-slice-read-result
 shared-slice-read-result c = search needs
 
 returns-2 : tie.Need-returns-2
-returns-2 c = rw (rules-word, eq-eqb _ _ (c .before .if1 .left))
+returns-2 c =
+    let a = c .before .before .before .before .before .before .before in
+    let same = same-row {b = rowWords * a .args .i} {m = rowWords * a .args .i + rowWords - rowWords * a .args .i} (a .args .live .now) (a .args .l .now) (a .args .i) (c .before .before .same .ensures) (omega arith) (omega arith) (a .pre .1) (a .pre .2) in
+    rw (sym same ∙ not-false _ (c .before .if1 .left))
 
 pub is-key-spec : {M : Type 1} → statement M
 is-key-spec =
     tie.close
-    (tie.spec mul-if1 shared-slice-read-if1 returns mul-result shared-slice-read-result returns-2)
+    (tie.spec
+    mul-start
+    add-same
+    mul-same
+    sub-same
+    part-same-start
+    part-same-end
+    same-requires
+    returns
+    mul-result
+    shared-slice-read-result
+    returns-2)

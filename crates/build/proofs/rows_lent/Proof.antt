@@ -1,5 +1,4 @@
--- `rows_lent` meets its contract, by what `least` ensures; a row of live and of out is one word. Assumes nothing.
-use native.Mathlib.Nat.{div-one}
+-- `rows_lent` meets its contract. Assumes nothing.
 use borrow.Author.Needs.{needs}
 use Rattle.build.proofs.rows_lent.Statement.{statement}
 use Rattle.build.proofs.rows_lent.Tie as tie
@@ -20,7 +19,7 @@ least-requires-5 : tie.Need-least-requires-5
 least-requires-5 c κs = search needs
 
 returns : tie.Need-returns
-returns c = simp div-one (cc)
+returns c = cc
 
 pub rows-lent-spec : {M : Type 1} → statement M
 rows-lent-spec =

@@ -1,78 +1,86 @@
--- `tally::add` meets its contract: to add for the rules left makes of the sums what to add for all makes of the sums at entry. Assumes nothing.
-use Prim.Native.Nat.{_^_, _<_}
-use mathlib.Core.Path.{_≡_, refl, sym, ap, ap₂, _∙_}
-use mathlib.Core.List.{[], _∷_}
+-- `tally::add` meets its contract: to add for the words left makes of the sums what to add for all makes of the sums at entry. Assumes nothing.
+use Prim.Native.Nat.{ℕ, _+_, _-_, _*_, _≤_}
+use mathlib.Core.Path.{_≡_, ap}
+use mathlib.Core.List.{List, map}
 use native.Mathlib.Omega.{arith}
 use borrow.Author.Needs.{needs}
-use lib.ListN.{length}
-use Rattle.sets.specs.Sets.{members}
-use Rattle.sets.proofs.Members.{members-cons, members-empty, first-lt}
+use lib.ListN.{length, drop, length-map, drop-of-length-le}
+use Rattle.sets.specs.Sets.{those, members, setOf, membersOf}
+use Rattle.sets.specs.Table.{rowWords}
+use Rattle.sets.proofs.InWords.{from-start, count-drop, members-drop}
+use Rattle.sets.proofs.Members.{members-le}
+use Rattle.book.specs.Limits.{mostRules}
 use Rattle.tally.specs.Tally.{addAll}
 use Rattle.tally.specs.Passes.{Room}
-use Rattle.tally.proofs.Adding.{room-less, room-add}
-use Rattle.tally.proofs.Walks.{members-le}
+use Rattle.tally.proofs.Adding.{add-append, room-less, room-add}
 use Rattle.tally.proofs.add.Statement.{statement}
 use Rattle.tally.proofs.add.Tie as tie
 
 abbrev Inv-loop : tie.InvT-loop
-Inv-loop set count sums₀ left₀ sums left =
-    (left < 2 ^ 64) × Room (length (members 64 left)) sums × (addAll count (members 64 left) sums ≡ addAll count (members 64 set) sums₀)
+Inv-loop set count sums₀ i₀ sums i =
+    (i ≤ rowWords) × Room (length (membersOf (drop i set))) sums × (addAll count (map (λ k. 64 * i + k) (membersOf (drop i set))) sums ≡ addAll count (membersOf set) sums₀)
 
 abbrev μ-loop : tie.MeasureT-loop
-μ-loop set count sums₀ left₀ sums left = length (members 64 left)
+μ-loop set count sums₀ i₀ sums i = rowWords - i
 
--- a rule is below 64
-small : (c : tie.After-first Inv-loop μ-loop) → c .first .result < 64
-small c = omega (arith, first-lt 64 (c .before .before .loop .left) (omega arith) (omega arith), c .first .ensures)
+-- the members of four words, and that they are at most all rules
+whole : (ws : List ℕ) → length ws ≡ rowWords → membersOf ws ≡ members mostRules (setOf ws)
+unfolding membersOf
+whole ws e = rw e
 
--- a turn takes the first of what is left
-turn : (c : tie.After-rest Inv-loop μ-loop) → members 64 (c .before .before .before .before .loop .left) ≡ c .before .before .first .result ∷ members 64 (c .rest .result)
-turn c =
-    members-cons 64 (c .before .before .before .before .loop .left) (omega arith) (omega arith)
-    ∙ ap₂ _∷_ (sym (c .before .before .first .ensures)) (sym (c .rest .ensures))
+few : (ws : List ℕ) → length ws ≡ rowWords → length (membersOf ws) ≤ mostRules
+few ws e = rw (whole ws e) (members-le mostRules (setOf ws))
 
 loop-holds : tie.Need-loop-holds Inv-loop μ-loop
-loop-holds c = (c .fits .set .fits, room-less (members-le 64 (c .args .set)) (c .pre .1), refl)
+loop-holds c =
+    let a = c .before in
+    (omega arith, room-less (few (a .args .set .now) (a .pre .1)) (a .pre .2), ap (λ ks. addAll (a .args .count) ks (a .args .sums .now)) (from-start _))
 
-first-requires : tie.Need-first-requires Inv-loop μ-loop
-first-requires c κs = search needs
+mul-add-word : tie.Need-mul-add-word Inv-loop μ-loop
+mul-add-word c = search needs
 
-cast-k : tie.Need-cast-k Inv-loop μ-loop
-cast-k c = omega (arith, small c)
+shared-slice-read-add-word : tie.Need-shared-slice-read-add-word Inv-loop μ-loop
+shared-slice-read-add-word c = search needs
 
-mul-sums : tie.Need-mul-sums Inv-loop μ-loop
-mul-sums c = search needs
+mul-add-word-2 : tie.Need-mul-add-word-2 Inv-loop μ-loop
+mul-add-word-2 c = search needs
 
-element-copy-out-sums : tie.Need-element-copy-out-sums Inv-loop μ-loop
-element-copy-out-sums c = small c
+add-word-requires : tie.Need-add-word-requires Inv-loop μ-loop
+add-word-requires c κs =
+    let l = c .before .before .before in
+    let a = l .before .before in
+    let ws = a .args .set .now in
+    let turn = count-drop ws (l .loop .i) (omega arith) (c .before .shared-slice-known2 .given (l .loop .i) .fits) in
+    (a .pre .0, omega arith, room-less (omega (arith, turn)) (l .loop .inv .1))
 
-add-sums : tie.Need-add-sums Inv-loop μ-loop
-add-sums c =
-    let l = c .before .before .before .loop in
-    omega (arith, l .inv .1 .fits (c .before .first .result), ap length (members-cons 64 (l .left) (omega arith) (omega arith)))
-
-element-write-sums : tie.Need-element-write-sums Inv-loop μ-loop
-element-write-sums c = small (c .before)
-
-rest-requires : tie.Need-rest-requires Inv-loop μ-loop
-rest-requires c κs = omega arith
+add-i : tie.Need-add-i Inv-loop μ-loop
+add-i c = search needs
 
 loop-less : tie.Need-loop-less Inv-loop μ-loop
-loop-less c = omega (arith, ap length (turn c))
+loop-less c = search needs
 
 loop-again : tie.Need-loop-again Inv-loop μ-loop
-unfolding addAll
 loop-again c =
-    let a = c .before .before .before .before .before in
-    let l = c .before .before .before .before .loop in (
+    let l = c .before .before .before .before in
+    let a = l .before .before in
+    let ws = a .args .set .now in
+    let i = l .loop .i in
+    let small = c .before .before .shared-slice-known2 .given i .fits in
+    let turn = count-drop ws i (omega arith) small in
+    let told = c .add-word .ensures in (
       omega arith,
-      room-add (a .args .count) _ _ (c .before .before .first .result ∷ []) _ (a .pre .0) (omega (arith, ap length (turn c))) (l .inv .1),
-      rw (turn c) at (l .inv .2),
+      rw told (room-add (a .args .count) _ _ _ (l .loop .sums) (a .pre .0) (rw length-map (omega (arith, turn))) (l .loop .inv .1)),
+      rw told (rw (members-drop ws i (omega arith) small, add-append) at (l .loop .inv .2)),
     )
 
 returns : tie.Need-returns Inv-loop μ-loop
-unfolding addAll
-returns c = rw (ap (members 64) (c .loop-test .left) ∙ members-empty 64) at (c .before .loop .inv .2)
+unfolding addAll membersOf members those
+returns c =
+    let l = c .before in
+    let a = l .before .before in
+    let ws = a .args .set .now in
+    let past : length ws ≤ l .loop .i = omega (arith, a .pre .1) in
+    rw (drop-of-length-le ws past, whole ws (a .pre .1)) at (l .loop .inv .2)
 
 pub add-spec : {M : Type 1} → statement M
 add-spec =
@@ -81,13 +89,11 @@ add-spec =
     Inv-loop
     μ-loop
     loop-holds
-    first-requires
-    cast-k
-    mul-sums
-    element-copy-out-sums
-    add-sums
-    element-write-sums
-    rest-requires
+    mul-add-word
+    shared-slice-read-add-word
+    mul-add-word-2
+    add-word-requires
+    add-i
     loop-less
     loop-again
     returns)

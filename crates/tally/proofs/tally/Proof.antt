@@ -5,6 +5,7 @@ use native.Mathlib.Omega.{arith}
 use borrow.Author.Tests.{not-true, not-false, lt-ltb, le-ltb}
 use borrow.Author.Needs.{needs}
 use lib.ListN.{length, replicate}
+use Rattle.sets.specs.Table.{rulesAt}
 use Rattle.book.specs.Limits.{mostRules}
 use Rattle.build.specs.Promise.{five}
 use Rattle.walk.specs.Walk.{moveOf, hasRows}
@@ -36,7 +37,7 @@ passed k q e = ap (λ x. walked x Accepted) (sym e ∙ k .walk-lines .ensures .0
 -- and the sums that they leave
 summed : (k : tie.After-walk-lines) → k .walk-lines .result ≡ Through →
     let a = k .before .before .before .before .before .before .before .before .before .before .before .before .before .before .before .before .args in
-    k .walk-lines .last .1 .1 .1 .1 .1 .0 ≡ sumsOf (moveOf (a .goto .now) (a .fall .now) (a .out .now) (a .n)) (a .profile .now)
+    k .walk-lines .last .1 .1 .1 .1 .1 .0 ≡ sumsOf (moveOf (a .goto .now) (a .fall .now) (a .out .now) (a .n)) (rulesAt (a .out .now)) (a .profile .now)
 summed k e = rw e at (k .walk-lines .ensures .1)
 
 returns : tie.Need-returns
@@ -76,7 +77,7 @@ store-requires : tie.Need-store-requires
 store-requires c κs =
     let k = c .before .before .before .before in
     let a = k .before .before .before .before .before .before .before .before .before .before .before .before .before .before .before .before .args in
-    (ap length (summed k (c .before .before .enum-told2 .given .1)) ∙ lines-length (moveOf (a .goto .now) (a .fall .now) (a .out .now) (a .n)) (a .profile .now) (replicate mostRules 0), k .before .before .before .before .before .if3 .left)
+    (ap length (summed k (c .before .before .enum-told2 .given .1)) ∙ lines-length (moveOf (a .goto .now) (a .fall .now) (a .out .now) (a .n)) (rulesAt (a .out .now)) (a .profile .now) (replicate mostRules 0), k .before .before .before .before .before .if3 .left)
 
 returns-4 : tie.Need-returns-4
 returns-4 c = (answered (c .before .before .before) _ (c .before .at .given .1), refl)

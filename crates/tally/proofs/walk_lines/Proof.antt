@@ -5,6 +5,7 @@ use mathlib.Core.Path.{_≡_, refl, sym, _∙_}
 use native.Mathlib.Omega.{arith}
 use borrow.Author.Needs.{needs}
 use lib.ListN.{length, drop}
+use Rattle.sets.specs.Table.{rulesAt}
 use Rattle.book.specs.Limits.{mostRules}
 use Rattle.walk.specs.Walk.{moveOf}
 use Rattle.tally.specs.declared.Pass.{Pass}
@@ -21,7 +22,7 @@ abbrev Inv-loop : tie.InvT-loop
 Inv-loop goto fall out n profile sums₀ at₀ sums at =
     (at ≤ length profile + 1) × Room (mostRules * (length profile - at)) sums
     × (passOver (linePass (moveOf goto fall out n)) at (linesOf (drop at profile)) ≡ linesPass (moveOf goto fall out n) profile)
-    × (sumsOver (moveOf goto fall out n) (linesOf (drop at profile)) sums ≡ linesSums (moveOf goto fall out n) profile sums₀)
+    × (sumsOver (moveOf goto fall out n) (rulesAt out) (linesOf (drop at profile)) sums ≡ linesSums (moveOf goto fall out n) (rulesAt out) profile sums₀)
 
 abbrev μ-loop : tie.MeasureT-loop
 μ-loop goto fall out n profile sums₀ at₀ sums at = length profile - at
@@ -77,9 +78,9 @@ loop-again c =
     let told = rw (c .enum-told .given .1) at (k .walk-line .ensures .1) in
     let p = piece-length (a .profile .now) (l .at) (f .result) (omega arith) (f .ensures .1) in (
       omega arith,
-      rw told (line-room _ _ _ (piece (a .profile .now) (l .at) (f .result)) (l .sums) (omega arith) (l .inv .1)),
+      rw told (line-room _ _ _ _ (piece (a .profile .now) (l .at) (f .result)) (l .sums) (omega arith) (l .inv .1)),
       turn k _ (c .enum-told .given .1),
-      rw told (sym (lines-sums _ _ (l .at) _ (l .sums) (k .before .before .before .before .loop-test .taken) (f .ensures .0) (f .ensures .1)) ∙ l .inv .3),
+      rw told (sym (lines-sums _ _ _ (l .at) _ (l .sums) (k .before .before .before .before .loop-test .taken) (f .ensures .0) (f .ensures .1)) ∙ l .inv .3),
     )
 
 enum-known-lost : tie.Need-enum-known-lost Inv-loop μ-loop
@@ -92,7 +93,7 @@ returns-2 : tie.Need-returns-2 Inv-loop μ-loop
 returns-2 c =
     let l = c .before .loop in
     let t = c .loop-test .left in
-    (sym (lines-end _ _ _ t) ∙ l .inv .2, sym (lines-sums-end _ _ _ (l .sums) t) ∙ l .inv .3)
+    (sym (lines-end _ _ _ t) ∙ l .inv .2, sym (lines-sums-end _ _ _ _ (l .sums) t) ∙ l .inv .3)
 
 pub walk-lines-spec : {M : Type 1} → statement M
 walk-lines-spec =

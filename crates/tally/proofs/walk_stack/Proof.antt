@@ -6,6 +6,7 @@ use native.Mathlib.Nat.{add-zero}
 use native.Mathlib.Omega.{arith}
 use borrow.Author.Needs.{needs}
 use lib.ListN.{length, drop}
+use Rattle.sets.specs.Table.{rulesAt}
 use Rattle.book.specs.Limits.{mostRules}
 use Rattle.walk.specs.Walk.{moveOf}
 use Rattle.tally.specs.declared.Pass.{Pass}
@@ -22,7 +23,7 @@ abbrev Inv-loop : tie.InvT-loop
 Inv-loop goto fall out n stack base count sums₀ at₀ sums at =
     (at ≤ length stack + 1) × Room (mostRules * (length stack - at)) sums
     × (passOver (framePass (moveOf goto fall out n)) (base + at) (framesOf (drop at stack)) ≡ stackPass (moveOf goto fall out n) base stack)
-    × (addAll count (rulesOver (moveOf goto fall out n) (framesOf (drop at stack))) sums ≡ addAll count (stackRules (moveOf goto fall out n) stack) sums₀)
+    × (addAll count (rulesOver (moveOf goto fall out n) (rulesAt out) (framesOf (drop at stack))) sums ≡ addAll count (stackRules (moveOf goto fall out n) (rulesAt out) stack) sums₀)
 
 abbrev μ-loop : tie.MeasureT-loop
 μ-loop goto fall out n stack base count sums₀ at₀ sums at = length stack - at
@@ -87,9 +88,9 @@ loop-again c =
     let told = rw (c .enum-told .given .1) at (k .walk-frame .ensures .1) in
     let p = piece-length (a .stack .now) (l .at) (f .result) (omega arith) (f .ensures .1) in (
       omega arith,
-      rw told (room-add (a .count) _ _ (frameRules (moveOf (a .goto .now) (a .fall .now) (a .out .now) (a .n)) part) (l .sums) (s .pre .1) (omega (arith, frame-le (moveOf (a .goto .now) (a .fall .now) (a .out .now) (a .n)) part)) (l .inv .1)),
+      rw told (room-add (a .count) _ _ (frameRules (moveOf (a .goto .now) (a .fall .now) (a .out .now) (a .n)) (rulesAt (a .out .now)) part) (l .sums) (s .pre .1) (omega (arith, frame-le (moveOf (a .goto .now) (a .fall .now) (a .out .now) (a .n)) (rulesAt (a .out .now)) part)) (l .inv .1)),
       turn k _ (c .enum-told .given .1),
-      rw told (rw (stack-rules-step _ _ _ _ t (f .ensures .0) (f .ensures .1), add-append) at (l .inv .3)),
+      rw told (rw (stack-rules-step _ _ _ _ _ t (f .ensures .0) (f .ensures .1), add-append) at (l .inv .3)),
     )
 
 enum-known-lost : tie.Need-enum-known-lost Inv-loop μ-loop
@@ -103,7 +104,7 @@ unfolding addAll
 returns-2 c =
     let l = c .before .loop in
     let t = c .loop-test .left in
-    (sym (stack-end _ _ _ _ t) ∙ l .inv .2, rw (stack-rules-end _ _ _ t) at (l .inv .3))
+    (sym (stack-end _ _ _ _ t) ∙ l .inv .2, rw (stack-rules-end _ _ _ _ t) at (l .inv .3))
 
 pub walk-stack-spec : {M : Type 1} → statement M
 walk-stack-spec =

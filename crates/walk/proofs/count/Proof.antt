@@ -17,7 +17,7 @@ use Rattle.walk.proofs.count.Tie as tie
 
 abbrev Inv-falls : tie.InvT-falls
 Inv-falls goto fall out n text row₀ falls made at sound₀ byte more₀ row sound more =
-    (row < n) × (more + row ≤ row₀) × (sound ≡ true) × (moveFrom goto fall out n row byte more ≡ moveFrom goto fall out n row₀ byte 0)
+    (row < n) × (more + row ≤ row₀) × (sound ≡ true) × (moveFrom goto fall n row byte more ≡ moveFrom goto fall n row₀ byte 0)
 
 abbrev μ-falls : tie.MeasureT-falls
 μ-falls goto fall out n text row₀ falls made at sound₀ byte more₀ row sound more = row
@@ -66,7 +66,7 @@ falls-again c =
       omega arith,
       omega arith,
       f .inv .2,
-      sym (first-fall _ _ _ _ _ _ (f .more) (c .before .before .before .before .entry-at .ensures) (c .before .before .fall-at .ensures) q h) ∙ f .inv .3,
+      sym (first-fall _ _ _ _ _ (f .more) (c .before .before .before .before .entry-at .ensures) (c .before .before .fall-at .ensures) q h) ∙ f .inv .3,
     )
 
 add-falls : tie.Need-add-falls Inv-falls μ-falls Inv-bytes μ-bytes
@@ -90,13 +90,13 @@ bytes-again c =
     let f = c .before .before .before .falls in
     let b = c .before .before .before .before .before .before .bytes in
     let ne : e .result ≢ noEntry = omega arith in
-    let l = sym (f .inv .3) ∙ first-go _ _ _ _ _ _ (f .more) (e .ensures) ne (c .before .if1 .taken) in (
+    let l = sym (f .inv .3) ∙ first-go _ _ _ _ _ (f .more) (e .ensures) ne (c .before .if1 .taken) in (
       c .before .if1 .taken,
       omega arith,
       omega arith,
       omega arith,
       f .inv .2,
-      rw (c .many .ensures .0) (sym (run-move _ _ _ _ _ (b .at) (b .row) (b .falls) (b .made) (Reached _ (f .more) _) (omega arith) l) ∙ b .inv .5),
+      rw (c .many .ensures .0) (sym (run-move _ _ _ _ _ (b .at) (b .row) (b .falls) (b .made) (Reached _ (f .more)) (omega arith) l) ∙ b .inv .5),
     )
 
 returns : tie.Need-returns Inv-falls μ-falls Inv-bytes μ-bytes
@@ -111,7 +111,7 @@ returns-2 c =
     ⊎-elim
     (λ w. let z : _≡_ {A = ℕ} 0 1 = cc (c .before .before .bytes .inv .4, c .if3 .left, w .2) in absurd (omega arith))
     (λ w.
-    let l = first-wrong _ _ _ _ _ _ (w .2 .more) (w .3 .ensures) (w .5 .ensures) (sym (w .6 .ensures) ∙ w .7 .taken) in
+    let l = first-wrong _ _ _ _ _ (w .2 .more) (w .3 .ensures) (w .5 .ensures) (sym (w .6 .ensures) ∙ w .7 .taken) in
     sym (run-move _ _ _ _ _ _ _ _ _ Lost (w .0 .taken) (sym (w .2 .inv .3) ∙ l)) ∙ c .before .before .bytes .inv .5)
     (c .before .bytes-test .came)
 

@@ -11,11 +11,11 @@ use Rattle.walk.proofs.move_from.Statement.{statement}
 use Rattle.walk.proofs.move_from.Tie as tie
 
 abbrev Inv-loop : tie.InvT-loop
-Inv-loop goto fall out n from byte row₀ falls₀ row falls =
-    (row < n) × (falls + row ≤ from) × (moveFrom goto fall out n row byte falls ≡ moveFrom goto fall out n from byte 0)
+Inv-loop goto fall n from byte row₀ falls₀ row falls =
+    (row < n) × (falls + row ≤ from) × (moveFrom goto fall n row byte falls ≡ moveFrom goto fall n from byte 0)
 
 abbrev μ-loop : tie.MeasureT-loop
-μ-loop goto fall out n from byte row₀ falls₀ row falls = row
+μ-loop goto fall n from byte row₀ falls₀ row falls = row
 
 -- where the walk falls back
 back : (c : tie.Else2 Inv-loop μ-loop) → (c .before .before .before .before .entry-at .result ≡ noEntry) × (c .before .before .fall-at .result < c .before .before .before .before .before .loop .row)
@@ -27,15 +27,12 @@ loop-holds c = search needs
 entry-at-requires : tie.Need-entry-at-requires Inv-loop μ-loop
 entry-at-requires c κs = search needs
 
-rules-requires : tie.Need-rules-requires Inv-loop μ-loop
-rules-requires c κs = search needs
-
 returns : tie.Need-returns Inv-loop μ-loop
 returns c =
-    let l = c .before .before .before .loop in
-    let e = c .before .before .entry-at in
+    let l = c .before .before .loop in
+    let e = c .before .entry-at in
     let ne : e .result ≢ noEntry = omega arith in
-    rw (c .rules .ensures) (sym (first-go _ _ _ _ _ _ (l .falls) (e .ensures) ne (c .before .if1 .taken)) ∙ l .inv .2)
+    sym (first-go _ _ _ _ _ (l .falls) (e .ensures) ne (c .if1 .taken)) ∙ l .inv .2
 
 fall-at-requires : tie.Need-fall-at-requires Inv-loop μ-loop
 fall-at-requires c κs = search needs
@@ -47,7 +44,7 @@ returns-2 : tie.Need-returns-2 Inv-loop μ-loop
 returns-2 c =
     let l = c .before .before .before .before .before .loop in
     let wrong = sym (c .before .is-unwritten .ensures) ∙ c .if2 .taken in
-    sym (first-wrong _ _ _ _ _ _ (l .falls) (c .before .before .before .before .entry-at .ensures) (c .before .before .fall-at .ensures) wrong) ∙ l .inv .2
+    sym (first-wrong _ _ _ _ _ (l .falls) (c .before .before .before .before .entry-at .ensures) (c .before .before .fall-at .ensures) wrong) ∙ l .inv .2
 
 add-falls : tie.Need-add-falls Inv-loop μ-loop
 add-falls c = search needs
@@ -61,7 +58,7 @@ loop-again c =
     let (q, h) = back c in (
       omega arith,
       omega arith,
-      sym (first-fall _ _ _ _ _ _ (l .falls) (c .before .before .before .before .entry-at .ensures) (c .before .before .fall-at .ensures) q h) ∙ l .inv .2,
+      sym (first-fall _ _ _ _ _ (l .falls) (c .before .before .before .before .entry-at .ensures) (c .before .before .fall-at .ensures) q h) ∙ l .inv .2,
     )
 
 pub move-from-spec : {M : Type 1} → statement M
@@ -72,7 +69,6 @@ move-from-spec =
     μ-loop
     loop-holds
     entry-at-requires
-    rules-requires
     returns
     fall-at-requires
     is-unwritten-requires

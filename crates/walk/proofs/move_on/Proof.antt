@@ -12,7 +12,10 @@ returns : tie.Need-returns
 returns c = simp (← c .before .is-short .ensures, c .if1 .taken)
 
 move-from-requires : tie.Need-move-from-requires
-move-from-requires c κs = not-short _ _ _ _ _ (sym (c .before .is-short .ensures) ∙ c .if1 .left)
+move-from-requires c κs =
+    let a = c .before .before .before .before .before .args in
+    let (lent, outs, below) = not-short (a .goto .now) (a .fall .now) (a .out .now) (a .n) (a .from) (sym (c .before .is-short .ensures) ∙ c .if1 .left) in
+    (lent, below)
 
 returns-2 : tie.Need-returns-2
 returns-2 c = simp (← c .before .before .is-short .ensures, c .before .if1 .left) (c .move-from .ensures)

@@ -1,51 +1,107 @@
--- `walk::report` meets its contract: where there is room, `write_members` writes all the pairs, as a run of stores would. Assumes nothing.
-use Prim.Native.Nat.{ℕ, _+_, _*_, _≤_}
-use mathlib.Core.List.{List, _++_}
-use mathlib.Core.Path.{_≡_, sym, _∙_}
+-- `walk::report` meets its contract: where there is room, the pairs of the words left are stored after those of the words passed. Assumes nothing.
+use mathlib.Core.Path.{_≡_, refl, ap, _∙_}
+use mathlib.Core.List.{map}
+use Prim.Native.Nat.{_+_, _-_, _*_, _≤_}
 use native.Mathlib.Omega.{arith}
 use borrow.Author.Needs.{needs}
-use lib.ListN.{length, take, drop}
-use lib.Seq.{sets as stored, take-all}
-use Rattle.sets.specs.Sets.{reports as pairs, pairsFrom}
-use Rattle.sets.proofs.Members.{reports-stored}
-use Rattle.sets.proofs.Table.{rules-word}
+use lib.ListN.{length, getD, drop}
+use lib.Seq.{sets as stored}
+use Rattle.sets.specs.Sets.{those, members, membersOf, reports as pairs}
+use Rattle.sets.specs.Table.{rowWords}
+use Rattle.sets.proofs.InWords.{from-start}
+use Rattle.sets.proofs.Table.{rowOf, row-end, members-row}
 use Rattle.walk.specs.Walk.{reported}
+use Rattle.walk.proofs.Rows.{row-count, row-stored}
 use Rattle.walk.proofs.report.Statement.{statement}
 use Rattle.walk.proofs.report.Tie as tie
 
-all-written : (end at r : ℕ) (ks old new : List ℕ) → at + 2 * length ks ≤ length old
-    → r ≡ at + 2 * length (take (pairsFrom (length old) at) ks) → new ≡ take at old ++ pairs end (take (pairsFrom (length old) at) ks) ++ drop r old
-    → (r ≡ at + 2 * length ks) × (new ≡ stored old at (pairs end ks))
-all-written end at r ks old new h p q =
-    let t = take-all (pairsFrom (length old) at) ks (omega arith) in
-    let z = rw t at p in
-    (z, rw t at q ∙ sym (reports-stored end ks old at r z (omega arith)))
+abbrev Inv-loop : tie.InvT-loop
+Inv-loop out row end reports₀ at start to₀ i₀ reports to i =
+    (i ≤ rowWords) × (length reports ≡ length reports₀) × (to + 2 * length (membersOf (drop i (rowOf out row))) ≡ at + 2 * length (membersOf (rowOf out row)))
+    × (stored reports to (pairs end (map (λ k. 64 * i + k) (membersOf (drop i (rowOf out row))))) ≡ stored reports₀ at (pairs end (membersOf (rowOf out row))))
 
-mul-write-members : tie.Need-mul-write-members
+abbrev μ-loop : tie.MeasureT-loop
+μ-loop out row end reports₀ at start to₀ i₀ reports to i = rowWords - i
+
+mul-start : tie.Need-mul-start Inv-loop μ-loop
+mul-start c = search needs
+
+loop-holds : tie.Need-loop-holds Inv-loop μ-loop
+loop-holds c = (
+  omega arith,
+  refl,
+  refl,
+  ap (λ ks. stored (c .before .before .args .reports .now) (c .before .before .args .at) (pairs (c .before .before .args .end) ks)) (from-start _),
+)
+
+add-write-members : tie.Need-add-write-members Inv-loop μ-loop
+add-write-members c = search needs
+
+mul-write-members : tie.Need-mul-write-members Inv-loop μ-loop
 mul-write-members c = search needs
 
-shared-slice-read-write-members : tie.Need-shared-slice-read-write-members
+shared-slice-read-write-members : tie.Need-shared-slice-read-write-members Inv-loop μ-loop
 shared-slice-read-write-members c = search needs
 
-write-members-requires : tie.Need-write-members-requires
+cast-write-members : tie.Need-cast-write-members Inv-loop μ-loop
+cast-write-members c = search needs
+
+mul-write-members-2 : tie.Need-mul-write-members-2 Inv-loop μ-loop
+mul-write-members-2 c = search needs
+
+write-members-requires : tie.Need-write-members-requires Inv-loop μ-loop
 write-members-requires c κs = search needs
 
-same-length : tie.Need-same-length
+add-i : tie.Need-add-i Inv-loop μ-loop
+add-i c = search needs
+
+loop-less : tie.Need-loop-less Inv-loop μ-loop
+loop-less c = search needs
+
+loop-again : tie.Need-loop-again Inv-loop μ-loop
+unfolding reported
+loop-again c =
+    let w = c .before .before in
+    let l = w .before .before .before .before in
+    let a = l .before .before .before in
+    let i = l .loop .i in
+    let inv = l .loop .inv in
+    let small = w .before .before .shared-slice-known2 .given (rowWords * a .args .row + i) .fits in
+    let turn = row-count (a .args .out .now) (a .args .row) i (a .pre .0) (omega arith) small in
+    let all = ap length (members-row (a .args .out .now) (a .args .row) (a .pre .0)) in
+    let room : l .loop .to + 2 * length (members 64 (getD (a .args .out .now) (rowWords * a .args .row + i) 0)) ≤ length (l .loop .reports) = omega (arith, turn, inv .1, inv .2, all, a .pre .1) in
+    let s = row-stored (a .args .out .now) (a .args .row) i (a .pre .0) (omega arith) small (a .args .end) (l .loop .to) _ (l .loop .reports) _ room (w .write-members .ensures .0) (w .write-members .ensures .1) in
+    (omega arith, w .write-members .kept .1 .1 .1 .0 ∙ inv .1, omega (arith, turn, s .0, inv .2), s .1 ∙ inv .3)
+
+same-length : tie.Need-same-length Inv-loop μ-loop
 same-length c = search needs
 
-returns : tie.Need-returns
-unfolding reported
+returns : tie.Need-returns Inv-loop μ-loop
+unfolding reported membersOf members those pairs
 returns c =
-    let p = c .before .before .before .before .before .before .before .pre in
-    let w = c .before .before .write-members .ensures in
-    rw rules-word (all-written _ _ _ _ _ _ (rw rules-word at (p .1)) (w .0) (w .1))
+    let l = c .before in
+    let a = l .before .before .before in
+    let none = row-end (a .args .out .now) (a .args .row) (a .pre .0) (l .loop .i) (omega arith) in
+    let all = members-row (a .args .out .now) (a .args .row) (a .pre .0) in
+    let to = rw (none, ← all) at (l .loop .inv .2) in
+    (omega (arith, to), rw (none, ← all) at (l .loop .inv .3))
 
 pub report-spec : {M : Type 1} → statement M
 report-spec =
     tie.close
     (tie.spec
+    Inv-loop
+    μ-loop
+    mul-start
+    loop-holds
+    add-write-members
     mul-write-members
     shared-slice-read-write-members
+    cast-write-members
+    mul-write-members-2
     write-members-requires
+    add-i
+    loop-less
+    loop-again
     same-length
     returns)

@@ -30,7 +30,8 @@ walkable : (k : tie.Else2) → let a = k .before .before .before .before .before
 walkable k =
     let (ne, l) = lends k in
     record {
-      lent = record { few = omega arith; entries = omega arith; falls = omega arith; outs = omega arith };
+      lent = record { few = omega arith; entries = omega arith; falls = omega arith };
+      outs = omega arith;
       some = omega arith;
       short = omega arith;
     }

@@ -33,7 +33,7 @@ left c =
 
 -- the row that the move reaches
 row-next : (c : tie.After-next Inv-loop μ-loop) → c .next .given .0 .0 < c .before .before .before .before .before .before .before .before .before .before .before .args .n
-row-next c = moved _ _ _ _ _ _ 0 (c .before .before .move-from .ensures) (c .next .given .1) .0
+row-next c = moved _ _ _ _ _ 0 (c .before .before .move-from .ensures) (c .next .given .1) .0
 
 -- and the byte's part in the reports
 more : (c : tie.After-next Inv-loop μ-loop) →
@@ -43,8 +43,8 @@ more : (c : tie.After-next Inv-loop μ-loop) →
     reportsFrom (a .goto .now) (a .fall .now) (a .out .now) (a .n) (l .at) (l .row) (drop (l .at) (a .text .now))
     ≡ pairs (l .at + 1) (reported (a .out .now) to) ++ reportsFrom (a .goto .now) (a .fall .now) (a .out .now) (a .n) (l .at + 1) to (drop (l .at + 1) (a .text .now))
 more c =
-    reports-move _ _ _ _ _ _ _ (Reached (c .next .given .0 .0) (c .next .given .0 .1 .0) (c .next .given .0 .1 .1 .0)) (left (c .before .before .before .before))
-    (moved _ _ _ _ _ _ 0 (c .before .before .move-from .ensures) (c .next .given .1) .1)
+    reports-move _ _ _ _ _ _ _ (Reached (c .next .given .0 .0) (c .next .given .0 .1 .0)) (left (c .before .before .before .before))
+    (moved _ _ _ _ _ 0 (c .before .before .move-from .ensures) (c .next .given .1) .1)
 
 loop-holds : tie.Need-loop-holds Inv-loop μ-loop
 loop-holds c = let p = c .before .before .before .before .before .pre in (omega arith, refl, omega (arith, p .1), stored-all _ _ (omega (arith, p .1)))
@@ -95,7 +95,7 @@ returns : tie.Need-returns Inv-loop μ-loop
 returns c =
     let a = c .before .before .before .before .before .before .before .before .before .before .before .args in
     let l = c .before .before .before .before .before .loop in
-    let m = moved _ _ _ _ _ _ 0 (c .before .before .move-from .ensures) (c .enum-told .given .1) in
+    let m = moved _ _ _ _ _ 0 (c .before .before .move-from .ensures) (c .enum-told .given .1) in
     rw (reports-move _ _ (a .out .now) _ (a .text .now) (l .at) (l .row) Lost (left (c .before .before .before .before)) (m .1)) at (l .inv .3)
 
 same-length-2 : tie.Need-same-length-2 Inv-loop μ-loop

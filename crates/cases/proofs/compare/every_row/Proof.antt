@@ -43,8 +43,14 @@ all16-requires-2 c κs = search needs
 all8-requires : tie.Need-all8-requires Inv-loop μ-loop
 all8-requires c κs = search needs
 
+mul-all64 : tie.Need-mul-all64 Inv-loop μ-loop
+mul-all64 c = search needs
+
 all64-requires : tie.Need-all64-requires Inv-loop μ-loop
 all64-requires c κs = search needs
+
+mul-all64-2 : tie.Need-mul-all64-2 Inv-loop μ-loop
+mul-all64-2 c = search needs
 
 all64-requires-2 : tie.Need-all64-requires-2 Inv-loop μ-loop
 all64-requires-2 c κs = search needs
@@ -75,7 +81,9 @@ every-row-spec =
     all16-requires
     all16-requires-2
     all8-requires
+    mul-all64
     all64-requires
+    mul-all64-2
     all64-requires-2
     slice-aggregate-expect
     expect-requires

@@ -5,10 +5,10 @@ use Rattle.cases.proofs.draw.many_rules.Statement.{statement}
 use Rattle.cases.proofs.draw.many_rules.Tie as tie
 
 abbrev Inv-loop : tie.InvT-loop
-Inv-loop bytes₀ run₀ count most drawn₀ counter₀ bytes run drawn counter = 0 ≤ counter
+Inv-loop bytes₀ run₀ count most kinds drawn₀ counter₀ bytes run drawn counter = 0 ≤ counter
 
 abbrev μ-loop : tie.MeasureT-loop
-μ-loop bytes₀ run₀ count most drawn₀ counter₀ bytes run drawn counter = count - counter
+μ-loop bytes₀ run₀ count most kinds drawn₀ counter₀ bytes run drawn counter = count - counter
 
 loop-holds : tie.Need-loop-holds Inv-loop μ-loop
 loop-holds c = search needs

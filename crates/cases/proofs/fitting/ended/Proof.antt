@@ -1,29 +1,29 @@
--- `cases::fitting::ended` is safe and ends. `j` comes nearer to its end. Assumes nothing.
+-- `cases::fitting::ended` is safe and ends. `w` comes nearer to its end. Assumes nothing.
 use Prim.Native.Nat.{_-_, _≤_}
 use borrow.Author.Needs.{needs}
 use Rattle.cases.proofs.fitting.ended.Statement.{statement}
 use Rattle.cases.proofs.fitting.ended.Tie as tie
 
 abbrev Inv-loop : tie.InvT-loop
-Inv-loop fit text start end rules₀ j₀ rules j = 0 ≤ j
+Inv-loop fit text start end rules₀ w₀ rules w = 0 ≤ w
 
 abbrev μ-loop : tie.MeasureT-loop
-μ-loop fit text start end rules₀ j₀ rules j = 9 - j
+μ-loop fit text start end rules₀ w₀ rules w = 4 - w
 
 loop-holds : tie.Need-loop-holds Inv-loop μ-loop
 loop-holds c = search needs
 
-level-requires : tie.Need-level-requires Inv-loop μ-loop
-level-requires c κs = search needs
+ended-word-requires : tie.Need-ended-word-requires Inv-loop μ-loop
+ended-word-requires c κs = search needs
 
-plus-requires : tie.Need-plus-requires Inv-loop μ-loop
-plus-requires c κs = search needs
+mul-rules : tie.Need-mul-rules Inv-loop μ-loop
+mul-rules c = search needs
 
-at64-requires : tie.Need-at64-requires Inv-loop μ-loop
-at64-requires c κs = search needs
+array-write-rules : tie.Need-array-write-rules Inv-loop μ-loop
+array-write-rules c = search needs
 
-add-j : tie.Need-add-j Inv-loop μ-loop
-add-j c = search needs
+add-w : tie.Need-add-w Inv-loop μ-loop
+add-w c = search needs
 
 loop-less : tie.Need-loop-less Inv-loop μ-loop
 loop-less c = search needs
@@ -41,10 +41,10 @@ ended-spec =
     Inv-loop
     μ-loop
     loop-holds
-    level-requires
-    plus-requires
-    at64-requires
-    add-j
+    ended-word-requires
+    mul-rules
+    array-write-rules
+    add-w
     loop-less
     loop-again
     returns)

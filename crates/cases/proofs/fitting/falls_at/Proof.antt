@@ -1,4 +1,4 @@
--- `cases::fitting::falls_at` is safe and ends. The turns left get fewer. Assumes nothing.
+-- `cases::fitting::falls_at` is safe and ends. `counter` comes nearer to its end. Assumes nothing.
 use Prim.Native.Nat.{_-_, _≤_}
 use borrow.Author.Needs.{needs}
 use Rattle.cases.proofs.fitting.falls_at.Statement.{statement}
@@ -22,8 +22,8 @@ plus-requires c κs = search needs
 plus-requires-2 : tie.Need-plus-requires-2 Inv-loop μ-loop
 plus-requires-2 c κs = search needs
 
-level-requires : tie.Need-level-requires Inv-loop μ-loop
-level-requires c κs = search needs
+is-opening-requires : tie.Need-is-opening-requires Inv-loop μ-loop
+is-opening-requires c κs = search needs
 
 longest-requires-2 : tie.Need-longest-requires-2 Inv-loop μ-loop
 longest-requires-2 c κs = search needs
@@ -56,7 +56,7 @@ falls-at-spec =
     loop-holds
     plus-requires
     plus-requires-2
-    level-requires
+    is-opening-requires
     longest-requires-2
     plus-requires-3
     add-counter

@@ -22,11 +22,14 @@ body-of-requires c κs = search needs
 rule-fits-requires : tie.Need-rule-fits-requires Inv-loop μ-loop
 rule-fits-requires c κs = search needs
 
+mark-requires : tie.Need-mark-requires Inv-loop μ-loop
+mark-requires c κs = search needs
+
 plus-requires : tie.Need-plus-requires Inv-loop μ-loop
 plus-requires c κs = search needs
 
-mark-requires : tie.Need-mark-requires Inv-loop μ-loop
-mark-requires c κs = search needs
+mark-requires-2 : tie.Need-mark-requires-2 Inv-loop μ-loop
+mark-requires-2 c κs = search needs
 
 add-k : tie.Need-add-k Inv-loop μ-loop
 add-k c = search needs
@@ -36,6 +39,9 @@ loop-less c = search needs
 
 loop-again : tie.Need-loop-again Inv-loop μ-loop
 loop-again c = search needs
+
+mark-unlike-requires : tie.Need-mark-unlike-requires Inv-loop μ-loop
+mark-unlike-requires c κs = search needs
 
 returns : tie.Need-returns Inv-loop μ-loop
 returns c = search needs
@@ -50,9 +56,11 @@ fits-of-spec =
     size-of-requires
     body-of-requires
     rule-fits-requires
-    plus-requires
     mark-requires
+    plus-requires
+    mark-requires-2
     add-k
     loop-less
     loop-again
+    mark-unlike-requires
     returns)

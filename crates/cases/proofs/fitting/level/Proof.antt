@@ -5,10 +5,10 @@ use Rattle.cases.proofs.fitting.level.Statement.{statement}
 use Rattle.cases.proofs.fitting.level.Tie as tie
 
 abbrev Inv-loop : tie.InvT-loop
-Inv-loop fit text start end j first rules₀ i₀ rules i = 0 ≤ i
+Inv-loop fit w text start end j first rules₀ i₀ rules i = 0 ≤ i
 
 abbrev μ-loop : tie.MeasureT-loop
-μ-loop fit text start end j first rules₀ i₀ rules i = j - i
+μ-loop fit w text start end j first rules₀ i₀ rules i = j - i
 
 above-requires : tie.Need-above-requires Inv-loop μ-loop
 above-requires c κs = search needs
@@ -18,6 +18,9 @@ returns c = search needs
 
 above-requires-2 : tie.Need-above-requires-2 Inv-loop μ-loop
 above-requires-2 c κs = search needs
+
+word-requires : tie.Need-word-requires Inv-loop μ-loop
+word-requires c κs = search needs
 
 loop-holds : tie.Need-loop-holds Inv-loop μ-loop
 loop-holds c = search needs
@@ -31,8 +34,8 @@ at8-requires c κs = search needs
 place-requires : tie.Need-place-requires Inv-loop μ-loop
 place-requires c κs = search needs
 
-at64-requires : tie.Need-at64-requires Inv-loop μ-loop
-at64-requires c κs = search needs
+word-requires-2 : tie.Need-word-requires-2 Inv-loop μ-loop
+word-requires-2 c κs = search needs
 
 add-i : tie.Need-add-i Inv-loop μ-loop
 add-i c = search needs
@@ -55,11 +58,12 @@ level-spec =
     above-requires
     returns
     above-requires-2
+    word-requires
     loop-holds
     plus-requires
     at8-requires
     place-requires
-    at64-requires
+    word-requires-2
     add-i
     loop-less
     loop-again

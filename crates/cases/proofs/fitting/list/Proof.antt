@@ -1,41 +1,32 @@
--- `cases::fitting::list` is safe and ends. `k` comes nearer to its end. Assumes nothing.
+-- `cases::fitting::list` is safe and ends. `w` comes nearer to its end. Assumes nothing.
 use Prim.Native.Nat.{_-_, _≤_}
 use borrow.Author.Needs.{needs}
 use Rattle.cases.proofs.fitting.list.Statement.{statement}
 use Rattle.cases.proofs.fitting.list.Tie as tie
 
 abbrev Inv-loop : tie.InvT-loop
-Inv-loop rules end pairs₀ reports made₀ k₀ pairs made k = 0 ≤ k
+Inv-loop words from end pairs₀ reports made₀ w₀ pairs made w = 0 ≤ w
 
 abbrev μ-loop : tie.MeasureT-loop
-μ-loop rules end pairs₀ reports made₀ k₀ pairs made k = 64 - k
+μ-loop words from end pairs₀ reports made₀ w₀ pairs made w = 4 - w
 
 loop-holds : tie.Need-loop-holds Inv-loop μ-loop
 loop-holds c = search needs
 
-has-requires : tie.Need-has-requires Inv-loop μ-loop
-has-requires c κs = search needs
-
 plus-requires : tie.Need-plus-requires Inv-loop μ-loop
 plus-requires c κs = search needs
 
-put32-requires : tie.Need-put32-requires Inv-loop μ-loop
-put32-requires c κs = search needs
+at64-requires : tie.Need-at64-requires Inv-loop μ-loop
+at64-requires c κs = search needs
 
-plus-requires-2 : tie.Need-plus-requires-2 Inv-loop μ-loop
-plus-requires-2 c κs = search needs
+mul-list-word : tie.Need-mul-list-word Inv-loop μ-loop
+mul-list-word c = search needs
 
-plus-requires-3 : tie.Need-plus-requires-3 Inv-loop μ-loop
-plus-requires-3 c κs = search needs
+list-word-requires : tie.Need-list-word-requires Inv-loop μ-loop
+list-word-requires c κs = search needs
 
-put32-requires-2 : tie.Need-put32-requires-2 Inv-loop μ-loop
-put32-requires-2 c κs = search needs
-
-plus-requires-4 : tie.Need-plus-requires-4 Inv-loop μ-loop
-plus-requires-4 c κs = search needs
-
-add-k : tie.Need-add-k Inv-loop μ-loop
-add-k c = search needs
+add-w : tie.Need-add-w Inv-loop μ-loop
+add-w c = search needs
 
 loop-less : tie.Need-loop-less Inv-loop μ-loop
 loop-less c = search needs
@@ -53,14 +44,11 @@ list-spec =
     Inv-loop
     μ-loop
     loop-holds
-    has-requires
     plus-requires
-    put32-requires
-    plus-requires-2
-    plus-requires-3
-    put32-requires-2
-    plus-requires-4
-    add-k
+    at64-requires
+    mul-list-word
+    list-word-requires
+    add-w
     loop-less
     loop-again
     returns)

@@ -13,8 +13,8 @@ abbrev μ-loop : tie.MeasureT-loop
 loop-holds : tie.Need-loop-holds Inv-loop μ-loop
 loop-holds c = search needs
 
-level-requires : tie.Need-level-requires Inv-loop μ-loop
-level-requires c κs = search needs
+is-opening-requires : tie.Need-is-opening-requires Inv-loop μ-loop
+is-opening-requires c κs = search needs
 
 add-j : tie.Need-add-j Inv-loop μ-loop
 add-j c = search needs
@@ -31,4 +31,12 @@ returns c = search needs
 pub longest-spec : {M : Type 1} → statement M
 longest-spec =
     tie.close
-    (tie.spec Inv-loop μ-loop loop-holds level-requires add-j loop-less loop-again returns)
+    (tie.spec
+    Inv-loop
+    μ-loop
+    loop-holds
+    is-opening-requires
+    add-j
+    loop-less
+    loop-again
+    returns)

@@ -25,6 +25,9 @@ plus-requires-2 c κs = search needs
 ended-requires : tie.Need-ended-requires Inv-loop μ-loop
 ended-requires c κs = search needs
 
+slice-aggregate-list : tie.Need-slice-aggregate-list Inv-loop μ-loop
+slice-aggregate-list c = search needs
+
 above-requires : tie.Need-above-requires Inv-loop μ-loop
 above-requires c κs = search needs
 
@@ -60,6 +63,7 @@ search-spec =
     plus-requires
     plus-requires-2
     ended-requires
+    slice-aggregate-list
     above-requires
     plus-requires-3
     list-requires

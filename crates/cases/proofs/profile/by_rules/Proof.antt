@@ -5,10 +5,10 @@ use Rattle.cases.proofs.profile.by_rules.Statement.{statement}
 use Rattle.cases.proofs.profile.by_rules.Tie as tie
 
 abbrev Inv-loop : tie.InvT-loop
-Inv-loop fit profile frames number sums₀ i₀ sums i = 0 ≤ i
+Inv-loop fit profile frames number sums₀ pairs₀ i₀ sums pairs i = 0 ≤ i
 
 abbrev μ-loop : tie.MeasureT-loop
-μ-loop fit profile frames number sums₀ i₀ sums i = number - i
+μ-loop fit profile frames number sums₀ pairs₀ i₀ sums pairs i = number - i
 
 loop-holds : tie.Need-loop-holds Inv-loop μ-loop
 loop-holds c = search needs

@@ -8,7 +8,7 @@ abbrev Inv-loop : tie.InvT-loop
 Inv-loop rules count lengths k₀ k = 0 ≤ k
 
 abbrev μ-loop : tie.MeasureT-loop
-μ-loop rules count lengths k₀ k = 64 - k
+μ-loop rules count lengths k₀ k = 256 - k
 
 loop-holds : tie.Need-loop-holds Inv-loop μ-loop
 loop-holds c = search needs

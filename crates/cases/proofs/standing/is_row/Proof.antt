@@ -13,8 +13,8 @@ abbrev μ-loop : tie.MeasureT-loop
 loop-holds : tie.Need-loop-holds Inv-loop μ-loop
 loop-holds c = search needs
 
-is-like-last-requires : tie.Need-is-like-last-requires Inv-loop μ-loop
-is-like-last-requires c κs = search needs
+is-unlike-requires : tie.Need-is-unlike-requires Inv-loop μ-loop
+is-unlike-requires c κs = search needs
 
 entry-requires : tie.Need-entry-requires Inv-loop μ-loop
 entry-requires c κs = search needs
@@ -50,7 +50,7 @@ is-row-spec =
     Inv-loop
     μ-loop
     loop-holds
-    is-like-last-requires
+    is-unlike-requires
     entry-requires
     mul-plus
     plus-requires

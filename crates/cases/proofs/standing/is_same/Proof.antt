@@ -1,20 +1,20 @@
--- `cases::standing::is_same` is safe and ends. `j` comes nearer to its end. Assumes nothing.
+-- `cases::standing::is_same` is safe and ends. `i` comes nearer to its end. Assumes nothing.
 use Prim.Native.Nat.{_-_, _≤_}
 use borrow.Author.Needs.{needs}
 use Rattle.cases.proofs.standing.is_same.Statement.{statement}
 use Rattle.cases.proofs.standing.is_same.Tie as tie
 
 abbrev Inv-loop : tie.InvT-loop
-Inv-loop levels r now j₀ j = 0 ≤ j
+Inv-loop levels r now i₀ i = 0 ≤ i
 
 abbrev μ-loop : tie.MeasureT-loop
-μ-loop levels r now j₀ j = 8 - j
+μ-loop levels r now i₀ i = 32 - i
 
 loop-holds : tie.Need-loop-holds Inv-loop μ-loop
 loop-holds c = search needs
 
-times8-requires : tie.Need-times8-requires Inv-loop μ-loop
-times8-requires c κs = search needs
+times32-requires : tie.Need-times32-requires Inv-loop μ-loop
+times32-requires c κs = search needs
 
 plus-requires : tie.Need-plus-requires Inv-loop μ-loop
 plus-requires c κs = search needs
@@ -31,8 +31,8 @@ element-copy-out-if1 c = search needs
 returns : tie.Need-returns Inv-loop μ-loop
 returns c = search needs
 
-add-j : tie.Need-add-j Inv-loop μ-loop
-add-j c = search needs
+add-i : tie.Need-add-i Inv-loop μ-loop
+add-i c = search needs
 
 loop-less : tie.Need-loop-less Inv-loop μ-loop
 loop-less c = search needs
@@ -50,13 +50,13 @@ is-same-spec =
     Inv-loop
     μ-loop
     loop-holds
-    times8-requires
+    times32-requires
     plus-requires
     at64-requires
     mul-if1
     element-copy-out-if1
     returns
-    add-j
+    add-i
     loop-less
     loop-again
     returns-2)

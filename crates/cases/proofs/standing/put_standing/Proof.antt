@@ -1,20 +1,20 @@
--- `cases::standing::put_standing` is safe and ends. `j` comes nearer to its end. Assumes nothing.
+-- `cases::standing::put_standing` is safe and ends. `i` comes nearer to its end. Assumes nothing.
 use Prim.Native.Nat.{_-_, _≤_}
 use borrow.Author.Needs.{needs}
 use Rattle.cases.proofs.standing.put_standing.Statement.{statement}
 use Rattle.cases.proofs.standing.put_standing.Tie as tie
 
 abbrev Inv-loop : tie.InvT-loop
-Inv-loop levels₀ to now j₀ levels j = 0 ≤ j
+Inv-loop levels₀ to now i₀ levels i = 0 ≤ i
 
 abbrev μ-loop : tie.MeasureT-loop
-μ-loop levels₀ to now j₀ levels j = 8 - j
+μ-loop levels₀ to now i₀ levels i = 32 - i
 
 loop-holds : tie.Need-loop-holds Inv-loop μ-loop
 loop-holds c = search needs
 
-times8-requires : tie.Need-times8-requires Inv-loop μ-loop
-times8-requires c κs = search needs
+times32-requires : tie.Need-times32-requires Inv-loop μ-loop
+times32-requires c κs = search needs
 
 plus-requires : tie.Need-plus-requires Inv-loop μ-loop
 plus-requires c κs = search needs
@@ -28,8 +28,8 @@ element-copy-out-put64 c = search needs
 put64-requires : tie.Need-put64-requires Inv-loop μ-loop
 put64-requires c κs = search needs
 
-add-j : tie.Need-add-j Inv-loop μ-loop
-add-j c = search needs
+add-i : tie.Need-add-i Inv-loop μ-loop
+add-i c = search needs
 
 loop-less : tie.Need-loop-less Inv-loop μ-loop
 loop-less c = search needs
@@ -47,12 +47,12 @@ put-standing-spec =
     Inv-loop
     μ-loop
     loop-holds
-    times8-requires
+    times32-requires
     plus-requires
     mul-put64
     element-copy-out-put64
     put64-requires
-    add-j
+    add-i
     loop-less
     loop-again
     returns)

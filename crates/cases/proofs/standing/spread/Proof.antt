@@ -19,8 +19,8 @@ end-of-requires c κs = search needs
 loop-holds : tie.Need-loop-holds Inv-loop μ-loop
 loop-holds c = search needs
 
-is-like-last-requires : tie.Need-is-like-last-requires Inv-loop μ-loop
-is-like-last-requires c κs = search needs
+is-unlike-requires : tie.Need-is-unlike-requires Inv-loop μ-loop
+is-unlike-requires c κs = search needs
 
 put8-requires : tie.Need-put8-requires Inv-loop μ-loop
 put8-requires c κs = search needs
@@ -61,7 +61,7 @@ spread-spec =
     start-of-requires
     end-of-requires
     loop-holds
-    is-like-last-requires
+    is-unlike-requires
     put8-requires
     plus-requires
     standing-requires

@@ -1,14 +1,14 @@
--- `cases::standing::standing` is safe and ends. `j` comes nearer to its end. Assumes nothing.
+-- `cases::standing::standing` is safe and ends. `i` comes nearer to its end. Assumes nothing.
 use Prim.Native.Nat.{_-_, _≤_}
 use borrow.Author.Needs.{needs}
 use Rattle.cases.proofs.standing.standing.Statement.{statement}
 use Rattle.cases.proofs.standing.standing.Tie as tie
 
 abbrev Inv-loop : tie.InvT-loop
-Inv-loop fit text start end now₀ j₀ now j = 0 ≤ j
+Inv-loop fit text start end now₀ i₀ now i = 0 ≤ i
 
 abbrev μ-loop : tie.MeasureT-loop
-μ-loop fit text start end now₀ j₀ now j = 8 - j
+μ-loop fit text start end now₀ i₀ now i = 32 - i
 
 loop-holds : tie.Need-loop-holds Inv-loop μ-loop
 loop-holds c = search needs
@@ -25,8 +25,8 @@ mul-now c = search needs
 array-write-now : tie.Need-array-write-now Inv-loop μ-loop
 array-write-now c = search needs
 
-add-j : tie.Need-add-j Inv-loop μ-loop
-add-j c = search needs
+add-i : tie.Need-add-i Inv-loop μ-loop
+add-i c = search needs
 
 loop-less : tie.Need-loop-less Inv-loop μ-loop
 loop-less c = search needs
@@ -48,7 +48,7 @@ standing-spec =
     level-requires
     mul-now
     array-write-now
-    add-j
+    add-i
     loop-less
     loop-again
     returns)

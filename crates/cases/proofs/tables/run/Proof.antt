@@ -28,8 +28,8 @@ returns c = search needs
 plus-requires : tie.Need-plus-requires Inv-loop μ-loop
 plus-requires c κs = search needs
 
-at64-requires : tie.Need-at64-requires Inv-loop μ-loop
-at64-requires c κs = search needs
+mul-list : tie.Need-mul-list Inv-loop μ-loop
+mul-list c = search needs
 
 above-requires : tie.Need-above-requires Inv-loop μ-loop
 above-requires c κs = search needs
@@ -67,7 +67,7 @@ run-spec =
     refused-requires
     returns
     plus-requires
-    at64-requires
+    mul-list
     above-requires
     plus-requires-2
     list-requires

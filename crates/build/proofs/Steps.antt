@@ -1,5 +1,5 @@
 -- The steps of a build's course as the code takes them, and what they keep. Assumes nothing.
-use mathlib.Core.Path.{_≡_, refl, subst, _∙_}
+use mathlib.Core.Path.{_≡_, refl, sym, subst, _∙_}
 use mathlib.Core.Logic.{_≢_}
 use mathlib.Core.Bool.{Bool, _&&_}
 use mathlib.Core.List.{List}
@@ -8,12 +8,12 @@ use native.Mathlib.Nat.{le-refl, le-trans, lt-of-lt-of-le}
 use native.Mathlib.Omega.{arith}
 use native.Mathlib.Decide.{decLt}
 use lib.Dec.{eqb}
-use lib.ListN.{length, getD, set, take, drop, length-set, length-take, length-drop}
+use lib.ListN.{length, getD, set, length-set}
 use lib.Seq.{getD-set-same, getD-set-other}
 use borrow.Author.Tests.{eq-eqb}
 use Rattle.sets.specs.Sets.{setOf}
 use Rattle.sets.specs.Table.{rowWords, rulesAt}
-use Rattle.sets.proofs.Table.{rules-part, rules-words, rules-same}
+use Rattle.sets.proofs.Table.{rowOf, rules-part, rules-words, row-long, rules-same}
 use Rattle.sets.proofs.Writing.{Writing}
 use Rattle.meaning.specs.Rules.{Rules}
 use Rattle.meaning.specs.Step.{finished}
@@ -40,17 +40,15 @@ module _ (n v : ℕ) (xs : List ℕ) (room : n < length xs) where
 pub stored-words : {n : ℕ} {xs ys : List ℕ} (ws : List ℕ) → length ws ≡ rowWords → Writing (λ j. getD ws j 0) xs (rowWords * n) rowWords ys → Stored rowWords rulesAt n (setOf ws) xs ys
 stored-words {n} {xs} {ys} ws e w = record {
   long = w .long;
-  here = rules-words ys ws n e (w .done);
+  here = rules-words ys n ws (omega arith) (w .done);
   kept = λ i l. rules-same ys xs i (λ j h. w .before (rowWords * i + j) (omega arith));
   past = λ i l. w .after i (omega arith);
 }
 
 -- whether a row's words are those of a set
-pub same-row : {t : Bool} {b m : ℕ} (xs ws : List ℕ) (i : ℕ) → t ≡ (eqb (length (take m (drop b xs))) (length ws) && eqb (setOf (take m (drop b xs))) (setOf ws))
-    → b ≡ rowWords * i → m ≡ rowWords → rowWords * suc i ≤ length xs → length ws ≡ rowWords → t ≡ eqb (rulesAt xs i) (setOf ws)
-same-row {b = b} {m} xs ws i e p q room n =
-    let long : length (take m (drop b xs)) ≡ length ws = rw (length-take, length-drop, p, q, n) (omega arith) in
-    e ∙ rw (eq-eqb _ _ long, p, q, rules-part xs i)
+pub same-row : {t : Bool} (xs ws : List ℕ) (i : ℕ) → t ≡ (eqb (length (rowOf xs i)) (length ws) && eqb (setOf (rowOf xs i)) (setOf ws))
+    → rowWords * suc i ≤ length xs → length ws ≡ rowWords → t ≡ eqb (rulesAt xs i) (setOf ws)
+same-row xs ws i e room n = e ∙ rw (eq-eqb _ _ (row-long xs i room ∙ sym n), rules-part xs i)
 
 -- what holds of the rows below n, and of the new one, holds of the rows below n + 1
 pub stored-all : {w n v : ℕ} {read : List ℕ → ℕ → ℕ} {xs ys : List ℕ} (P : ℕ → ℕ → Type 0) → Stored w read n v xs ys → ((i : ℕ) → i < n → P i (read xs i)) → P n v

@@ -13,7 +13,7 @@ use lib.Bits.{bitOr, block-half, block-odd, or-lt, or-zero-r}
 use lib.ListN.{length, getD, drop, length-append, length-map, List·getD-eq-default}
 use lib.Seq.{getD-drop, drop-cons}
 use borrow.Author.Tests.{eq-eqb, ne-eqb}
-use Rattle.sets.specs.Sets.{has, setWhere, those, members, setOf, wordWhere, united, membersOf}
+use Rattle.sets.specs.Sets.{has, setWhere, those, members, setOf, plusEach, wordWhere, united, membersOf}
 use Rattle.sets.proofs.Laws.{has-zero, has-suc, has-empty, has-above, has-in, has-or, setWhere-lt, same}
 use Rattle.sets.proofs.Members.{those-ext, those-shift, those-append}
 
@@ -179,14 +179,14 @@ unfolding setOf
 not-same v w us vs a b h = ne-eqb (setOf us * 2 ^ 64 + v) (setOf vs * 2 ^ 64 + w) (λ q. h (omega arith))
 
 -- the members counted from b on, word by word
-members-from : (b w : ℕ) (ws : List ℕ) → w < 2 ^ 64 → map (λ k. b + k) (membersOf (w ∷ ws)) ≡ map (λ k. b + k) (members 64 w) ++ map (λ k. b + 64 + k) (membersOf ws)
+members-from : (b w : ℕ) (ws : List ℕ) → w < 2 ^ 64 → plusEach b (membersOf (w ∷ ws)) ≡ plusEach b (members 64 w) ++ plusEach (b + 64) (membersOf ws)
 members-from b w ws h =
     ap (map (λ k. b + k)) (membersOf-cons w ws h)
     ∙ map-append (λ k. b + k) (members 64 w) (map (λ k. 64 + k) (membersOf ws))
-    ∙ ap (λ ks. map (λ k. b + k) (members 64 w) ++ ks) (map-map (λ k. b + k) (λ k. 64 + k) (membersOf ws) ∙ (λ i. map (λ k. sym (add-assoc b 64 k) i) (membersOf ws)))
+    ∙ ap (λ ks. plusEach b (members 64 w) ++ ks) (map-map (λ k. b + k) (λ k. 64 + k) (membersOf ws) ∙ (λ i. map (λ k. sym (add-assoc b 64 k) i) (membersOf ws)))
 
 -- counted from 0 on
-pub from-start : (ks : List ℕ) → map (λ k. 64 * 0 + k) ks ≡ ks
+pub from-start : (ks : List ℕ) → plusEach (64 * 0) ks ≡ ks
 from-start ks = (λ i. map (λ k. zero-add k i) ks) ∙ map-id ks
 
 -- the members from word i on, with that word and without
@@ -194,7 +194,7 @@ module _ (ws : List ℕ) (i : ℕ) (h : i < length ws) (small : getD ws i 0 < 2 
   pub count-drop : length (membersOf (drop i ws)) ≡ length (members 64 (getD ws i 0)) + length (membersOf (drop (i + 1) ws))
   count-drop = rw (drop-cons ws i 0 h, add-one) (count-cons (getD ws i 0) (drop (suc i) ws) small)
 
-  pub members-drop : map (λ k. 64 * i + k) (membersOf (drop i ws)) ≡ map (λ k. 64 * i + k) (members 64 (getD ws i 0)) ++ map (λ k. 64 * (i + 1) + k) (membersOf (drop (i + 1) ws))
+  pub members-drop : plusEach (64 * i) (membersOf (drop i ws)) ≡ plusEach (64 * i) (members 64 (getD ws i 0)) ++ plusEach (64 * (i + 1)) (membersOf (drop (i + 1) ws))
   members-drop =
       let e : 64 * (i + 1) ≡ 64 * i + 64 = omega arith in
       rw (drop-cons ws i 0 h, e, add-one) (members-from (64 * i) (getD ws i 0) (drop (suc i) ws) small)

@@ -1,13 +1,13 @@
 -- A table of sets is known by the sets of its rows, for any number of words a row; and a row's set by its words. Assumes nothing.
 use mathlib.Core.Path.{_≡_, refl, sym, ap, _∙_}
 use mathlib.Core.List.{List, []}
-use Prim.Native.Nat.{ℕ, zero, suc, _+_, _*_, _/_, _%_, _≤_, _<_}
+use Prim.Native.Nat.{ℕ, zero, suc, _+_, _-_, _*_, _/_, _%_, _≤_, _<_}
 use native.Mathlib.Nat.{mod-lt, div-add-mod', div-lt-iff-lt-mul, mul-comm, zero-mul, zero-lt-suc}
 use native.Mathlib.Omega.{arith}
 use native.Mathlib.Decide.{decLt}
 use lib.Pow.{pow-pos}
-use lib.ListN.{length, getD, take, drop, replicate, length-take, length-drop, drop-of-length-le, getD-replicate, List·getD-eq-default}
-use lib.Seq.{getD-take, getD-drop}
+use lib.ListN.{length, getD, take, drop, length-take, length-drop, drop-of-length-le, List·getD-eq-default}
+use lib.Seq.{getD-take, getD-drop, ext-getD}
 use Rattle.sets.specs.Sets.{has, members, setOf, membersOf}
 use Rattle.sets.specs.Table.{rowWords, rowSet, rulesAt}
 use Rattle.sets.proofs.Laws.{ext}
@@ -41,59 +41,45 @@ same-table (suc v) n xs ys f g e j h =
     let r = same-words _ _ (words-row w xs (j / w) f) (words-row w ys (j / w) g) (e (j / w) i) (j % w) in
     rw (getD-take w (drop (w * (j / w)) xs) (j % w) 0 k, getD-take w (drop (w * (j / w)) ys) (j % w) 0 k, getD-drop (w * (j / w)) xs, getD-drop (w * (j / w)) ys, q) at r
 
--- ---- a row's set
+-- words are known by their set
+pub words-inj : (us vs : List ℕ) → Words us → Words vs → length us ≡ length vs → setOf us ≡ setOf vs → us ≡ vs
+words-inj us vs f g n e = ext-getD 0 us vs n (λ i h. same-words us vs f g e i)
 
--- it is that of the row's words
-pub rules-part : (xs : List ℕ) (i : ℕ) → rulesAt xs i ≡ setOf (take rowWords (drop (rowWords * i) xs))
-unfolding rulesAt rowSet
-rules-part xs i = refl
-
--- word j of row i
-pub row-word : (w i j : ℕ) (xs : List ℕ) → j < w → getD (take w (drop (w * i) xs)) j 0 ≡ getD xs (w * i + j) 0
-row-word w i j xs h = getD-take w (drop (w * i) xs) j 0 h ∙ getD-drop (w * i) xs j 0
-
--- so the set is known by them
-pub rules-words : (xs ws : List ℕ) (i : ℕ) → length ws ≡ rowWords → ((j : ℕ) → j < rowWords → getD xs (rowWords * i + j) 0 ≡ getD ws j 0) → rulesAt xs i ≡ setOf ws
-rules-words xs ws i n e = rules-part xs i ∙ setOf-ext _ ws at
-  where
-    row : List ℕ
-    row = take rowWords (drop (rowWords * i) xs)
-
-    at : (j : ℕ) → getD row j 0 ≡ getD ws j 0
-    at j =
-        elim (decLt j rowWords) [
-          | yes h ↦ row-word rowWords i j xs h ∙ e j h
-          | no g ↦ List·getD-eq-default row 0 (rw length-take (omega arith)) ∙ sym (List·getD-eq-default ws 0 (omega arith))
-        ]
-
--- and is the same in tables with the same words there
-pub rules-same : (xs ys : List ℕ) (i : ℕ) → ((j : ℕ) → j < rowWords → getD xs (rowWords * i + j) 0 ≡ getD ys (rowWords * i + j) 0) → rulesAt xs i ≡ rulesAt ys i
-rules-same xs ys i e = rules-part xs i ∙ setOf-ext _ _ at ∙ sym (rules-part ys i)
-  where
-    part : List ℕ → List ℕ
-    part zs = take rowWords (drop (rowWords * i) zs)
-
-    past : (zs : List ℕ) (j : ℕ) → rowWords ≤ j → getD (part zs) j 0 ≡ 0
-    past zs j h = List·getD-eq-default (part zs) 0 (rw length-take (omega arith))
-
-    at : (j : ℕ) → getD (part xs) j 0 ≡ getD (part ys) j 0
-    at j =
-        elim (decLt j rowWords) [
-          | yes h ↦ row-word rowWords i j xs h ∙ e j h ∙ sym (row-word rowWords i j ys h)
-          | no g ↦ past xs j (omega arith) ∙ sym (past ys j (omega arith))
-        ]
-
--- and empty where they are 0
-pub rules-none : (xs : List ℕ) (i : ℕ) → ((j : ℕ) → j < rowWords → getD xs (rowWords * i + j) 0 ≡ 0) → rulesAt xs i ≡ 0
-unfolding setOf
-rules-none xs i e = rules-words xs (replicate rowWords 0) i refl (λ j h. e j h ∙ sym (getD-replicate rowWords j 0 0 h))
-
--- ---- a row's words, one by one
+-- ---- a row's words, and its set
 
 module _ (xs : List ℕ) (i : ℕ) where
   -- the words of row i
   abbrev pub rowOf : List ℕ
   rowOf = take rowWords (drop (rowWords * i) xs)
+
+  pub rules-part : rulesAt xs i ≡ setOf rowOf
+  unfolding rulesAt rowSet
+  rules-part = refl
+
+  -- the row, as it is lent
+  pub part-row : take (rowWords * i + rowWords - rowWords * i) (drop (rowWords * i) xs) ≡ rowOf
+  part-row = let four : rowWords * i + rowWords - rowWords * i ≡ rowWords = omega arith in rw four
+
+  pub row-word : (j : ℕ) → j < rowWords → getD rowOf j 0 ≡ getD xs (rowWords * i + j) 0
+  row-word j h = getD-take rowWords (drop (rowWords * i) xs) j 0 h ∙ getD-drop (rowWords * i) xs j 0
+
+  row-few : length rowOf ≤ rowWords
+  row-few = rw length-take (omega arith)
+
+  -- the set is known by the words, of which those left out are 0
+  pub rules-words : (ws : List ℕ) → length ws ≤ rowWords → ((j : ℕ) → j < rowWords → getD xs (rowWords * i + j) 0 ≡ getD ws j 0) → rulesAt xs i ≡ setOf ws
+  rules-words ws n e = rules-part ∙ setOf-ext rowOf ws at
+    where
+      at : (j : ℕ) → getD rowOf j 0 ≡ getD ws j 0
+      at j =
+          elim (decLt j rowWords) [
+            | yes h ↦ row-word j h ∙ e j h
+            | no g ↦ List·getD-eq-default rowOf 0 (omega (arith, row-few)) ∙ sym (List·getD-eq-default ws 0 (omega arith))
+          ]
+
+  pub rules-none : ((j : ℕ) → j < rowWords → getD xs (rowWords * i + j) 0 ≡ 0) → rulesAt xs i ≡ 0
+  unfolding setOf
+  rules-none e = rules-words [] (omega arith) e
 
   module _ (room : rowWords * suc i ≤ length xs) where
     pub row-long : length rowOf ≡ rowWords
@@ -102,7 +88,11 @@ module _ (xs : List ℕ) (i : ℕ) where
     pub row-end : (j : ℕ) → rowWords ≤ j → drop j rowOf ≡ []
     row-end j h = let l : length rowOf ≤ j = omega (arith, row-long) in drop-of-length-le rowOf l
 
-    -- and the members of its set
-    pub members-row : members (64 * rowWords) (rulesAt xs i) ≡ membersOf rowOf
-    unfolding membersOf
-    members-row = rw (row-long, rules-part xs i)
+-- the set is the same in tables with the same words there
+pub rules-same : (xs ys : List ℕ) (i : ℕ) → ((j : ℕ) → j < rowWords → getD xs (rowWords * i + j) 0 ≡ getD ys (rowWords * i + j) 0) → rulesAt xs i ≡ rulesAt ys i
+rules-same xs ys i e = rules-words xs i (rowOf ys i) (row-few ys i) (λ j h. e j h ∙ sym (row-word ys i j h)) ∙ sym (rules-part ys i)
+
+-- the members of as many words as a row has
+pub members-whole : (ws : List ℕ) → length ws ≡ rowWords → membersOf ws ≡ members (64 * rowWords) (setOf ws)
+unfolding membersOf
+members-whole ws e = rw e

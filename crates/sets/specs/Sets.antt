@@ -1,6 +1,6 @@
 -- Sets of numbers, each as one number: k is in the set where the bit k is set. Assumes nothing.
 use mathlib.Core.Bool.{Bool, true, false, cond, _||_}
-use mathlib.Core.List.{List, [], _∷_}
+use mathlib.Core.List.{List, [], _∷_, map}
 use Prim.Native.Nat.{ℕ, zero, suc, _+_, _-_, _*_, _/_, _%_, _^_, min}
 use lib.Dec.{eqb}
 use lib.Bits.{bitOr}
@@ -41,6 +41,10 @@ setOf (w ∷ ws) = setOf ws * 2 ^ 64 + w
 -- its members, ascending
 unfoldable pub membersOf : List ℕ → List ℕ
 membersOf ws = members (64 * length ws) (setOf ws)
+
+-- each of ks, plus b
+abbrev pub plusEach : ℕ → List ℕ → List ℕ
+plusEach b ks = map (λ k. b + k) ks
 
 -- word i of the set of the k below n with p k
 abbrev pub wordWhere : ℕ → (ℕ → Bool) → ℕ → ℕ

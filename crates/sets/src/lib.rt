@@ -1,12 +1,12 @@
 // Sets of numbers below 64 as one word: k is in the set where the bit k is set. Larger sets are several words, lowest first.
 ghost use mathlib.Core.Path.{_≡_};
 ghost use mathlib.Core.Bool.{_&&_};
-ghost use mathlib.Core.List.{_++_, map};
+ghost use mathlib.Core.List.{_++_};
 ghost use Prim.Native.Nat.{_+_, _*_, _≤_};
 ghost use lib.Bits.{bitOr};
 ghost use lib.Dec.{eqb};
 ghost use lib.ListN.{length, getD, take, drop, replicate};
-ghost use Rattle.sets.specs.Sets.{has as isIn, adding, members, setOf, united, reports, pairsFrom};
+ghost use Rattle.sets.specs.Sets.{has as isIn, adding, members, setOf, plusEach, united, reports, pairsFrom};
 ghost use Rattle.sets.specs.Table.{rowWords};
 
 // How many words a row of a table of sets has.
@@ -72,7 +72,7 @@ pub fn rest(set: u64) -> u64
 // Writes (end, base + k) at out[at..] for each k of the set, ascending, as many pairs as there is room for, and answers where the next would go.
 pub fn write_members(set: u64, base: u16, end: u32, out: &mut [u32], at: usize) -> usize
     ensures moved { λ r. ⌜ r ≡ at + 2 * length (take (pairsFrom (length (now (out .entry))) at) (members 64 set)) ⌝ }
-    ensures wrote { λ r. ⌜ now (out .exit) ≡ take at (now (out .entry)) ++ reports end (map (λ k. base + k) (take (pairsFrom (length (now (out .entry))) at) (members 64 set))) ++ drop r (now (out .entry)) ⌝ }
+    ensures wrote { λ r. ⌜ now (out .exit) ≡ take at (now (out .entry)) ++ reports end (plusEach base (take (pairsFrom (length (now (out .entry))) at) (members 64 set))) ++ drop r (now (out .entry)) ⌝ }
 {
     if out.len() < at {
         return at;

@@ -2,11 +2,10 @@
 
 use book::Book;
 use sets::WORDS;
-ghost use mathlib.Core.List.{map};
 ghost use mathlib.Core.Path.{_≡_};
 ghost use Prim.Native.Nat.{_+_, _-_, _*_, _≤_, _<_};
 ghost use lib.ListN.{length, drop};
-ghost use Rattle.sets.specs.Sets.{members, setOf};
+ghost use Rattle.sets.specs.Sets.{members, setOf, plusEach};
 ghost use Rattle.sets.specs.Table.{rowWords, rulesAt};
 ghost use Rattle.book.specs.Limits.{mostRules, mostBytes};
 ghost use Rattle.build.specs.Promise.{five};
@@ -199,7 +198,7 @@ fn check(profile: &[u8]) -> Pass
 // Adds the count to the sum of each rule of a word of a set, whose first is rule `base`.
 fn add_word(word: u64, base: usize, count: u64, sums: &mut [u64; Book::RULES])
     requires { ⌜ (count ≤ mostCount) × (base + 64 ≤ mostRules) × Room (length (members 64 word)) (now sums) ⌝ }
-    ensures { λ _. ⌜ now (sums .exit) ≡ addAll count (map (λ k. base + k) (members 64 word)) (now (sums .entry)) ⌝ }
+    ensures { λ _. ⌜ now (sums .exit) ≡ addAll count (plusEach base (members 64 word)) (now (sums .entry)) ⌝ }
 {
     let mut left = word;
     while left != 0 {

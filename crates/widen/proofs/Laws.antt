@@ -7,12 +7,12 @@ use native.Mathlib.Omega.{arith}
 use native.Mathlib.Decide.{decLt}
 use lib.Dec.{eqb}
 use lib.Pow.{pow-pos}
-use lib.ListN.{length, getD, take, drop, length-take, List·getD-eq-default}
+use lib.ListN.{length, getD, List·getD-eq-default}
 use borrow.Author.Tests.{eq-eqb, ne-eqb, lt-ltb, le-ltb}
 use Rattle.sets.specs.Sets.{setOf}
 use Rattle.sets.specs.Table.{rowWords, rulesAt}
-use Rattle.sets.proofs.InWords.{Words, setOf-ext}
-use Rattle.sets.proofs.Table.{rules-part, row-word}
+use Rattle.sets.proofs.InWords.{Words}
+use Rattle.sets.proofs.Table.{rules-words}
 use Rattle.meaning.specs.Tables.{ZeroFrom}
 use Rattle.book.proofs.Tables.{length-table, getD-table}
 use Rattle.widen.specs.Widen.{widenedAt, widened, widenOf, LiveFirst}
@@ -100,18 +100,11 @@ module _ (n : ℕ) (old : List ℕ) (room : length old ≤ n / rowWords) (i : �
       ]
 
   pub rules-widened : rulesAt (widened n old) i ≡ getD old i 0
-  rules-widened = rules-part (widened n old) i ∙ setOf-ext row (getD old i 0 ∷ []) at ∙ one-set (getD old i 0)
+  rules-widened = rules-words (widened n old) i (getD old i 0 ∷ []) (omega arith) at ∙ one-set (getD old i 0)
     where
-      row : List ℕ
-      row = take rowWords (drop (rowWords * i) (widened n old))
-
-      at : (j : ℕ) → getD row j 0 ≡ getD (getD old i 0 ∷ []) j 0
-      at zero = row-word rowWords i 0 (widened n old) (omega arith) ∙ first-word
-      at (suc j) =
-          elim (decLt (suc j) rowWords) [
-            | yes h ↦ row-word rowWords i (suc j) (widened n old) h ∙ other-word j h
-            | no g ↦ List·getD-eq-default row 0 (rw length-take (omega arith))
-          ]
+      at : (j : ℕ) → j < rowWords → getD (widened n old) (rowWords * i + j) 0 ≡ getD (getD old i 0 ∷ []) j 0
+      at zero h = first-word
+      at (suc j) h = other-word j h
 
 pub sets-kept : SetsKept
 sets-kept n old room = record {

@@ -1,13 +1,12 @@
 -- `ends` meets its contract: the words are united. Assumes nothing.
-use mathlib.Core.Path.{_≡_, sym, ap, ap₂, _∙_}
-use Prim.Native.Nat.{_+_, _-_, _*_, _≤_}
+use mathlib.Core.Path.{sym, ap, ap₂, _∙_}
 use native.Mathlib.Omega.{arith}
 use borrow.Author.Needs.{needs}
 use lib.Bits.{bitOr}
-use lib.ListN.{length, take, drop, length-take}
-use Rattle.sets.specs.Table.{rowWords}
+use lib.ListN.{length}
+use Rattle.sets.specs.Sets.{setOf}
 use Rattle.sets.proofs.InWords.{length-united}
-use Rattle.sets.proofs.Table.{rules-part}
+use Rattle.sets.proofs.Table.{rules-part, part-row, row-long}
 use Rattle.build.proofs.ends.Statement.{statement}
 use Rattle.build.proofs.ends.Tie as tie
 
@@ -42,12 +41,11 @@ returns : tie.Need-returns
 returns c =
     let a = c .before .before .before .before .before .before .before in
     let e = c .before .before .before .before .ended .ensures in
-    let b = rowWords * a .args .below in
-    let row = take (b + rowWords - b) (drop b (a .args .out .now)) in
-    let four : b + rowWords - b ≡ rowWords = omega arith in
-    let fits : length row ≤ length (c .before .before .before .before .ended .result) = rw (length-take, four, e .1) (omega arith) in
-    let set = c .before .unite .ensures .1 fits in
-    (set ∙ ap₂ bitOr (e .0) (rw four (sym (rules-part (a .args .out .now) (a .args .below)))), ap length (c .before .unite .ensures .0) ∙ length-united _ row ∙ e .1)
+    let out = a .args .out .now in
+    let below = a .args .below in
+    let part = part-row out below in
+    let set = c .before .unite .ensures .1 (rw (part, row-long out below (a .pre .3), e .1) (omega arith)) in
+    (set ∙ ap₂ bitOr (e .0) (ap setOf part ∙ sym (rules-part out below)), ap length (c .before .unite .ensures .0) ∙ length-united _ _ ∙ e .1)
 
 pub ends-spec : {M : Type 1} → statement M
 ends-spec =

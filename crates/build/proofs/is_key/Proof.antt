@@ -1,10 +1,8 @@
 -- `is_key` meets its contract: a row's set is that of its words. Assumes nothing.
 use mathlib.Core.Path.{sym, _∙_}
-use Prim.Native.Nat.{_+_, _-_, _*_}
-use native.Mathlib.Omega.{arith}
 use borrow.Author.Needs.{needs}
 use borrow.Author.Tests.{not-true, not-false}
-use Rattle.sets.specs.Table.{rowWords}
+use Rattle.sets.proofs.Table.{part-row}
 use Rattle.build.proofs.Steps.{same-row}
 use Rattle.build.proofs.is_key.Statement.{statement}
 use Rattle.build.proofs.is_key.Tie as tie
@@ -33,7 +31,7 @@ same-requires c κs = search needs
 returns : tie.Need-returns
 returns c =
     let a = c .before .before .before .before .before .before in
-    let same = same-row {b = rowWords * a .args .i} {m = rowWords * a .args .i + rowWords - rowWords * a .args .i} (a .args .live .now) (a .args .l .now) (a .args .i) (c .before .same .ensures) (omega arith) (omega arith) (a .pre .1) (a .pre .2) in
+    let same = same-row (a .args .live .now) (a .args .l .now) (a .args .i) (c .before .same .ensures ∙ rw (part-row (a .args .live .now) (a .args .i))) (a .pre .1) (a .pre .2) in
     rw (sym same ∙ not-true _ (c .if1 .taken))
 
 mul-result : tie.Need-mul-result
@@ -45,7 +43,7 @@ shared-slice-read-result c = search needs
 returns-2 : tie.Need-returns-2
 returns-2 c =
     let a = c .before .before .before .before .before .before .before in
-    let same = same-row {b = rowWords * a .args .i} {m = rowWords * a .args .i + rowWords - rowWords * a .args .i} (a .args .live .now) (a .args .l .now) (a .args .i) (c .before .before .same .ensures) (omega arith) (omega arith) (a .pre .1) (a .pre .2) in
+    let same = same-row (a .args .live .now) (a .args .l .now) (a .args .i) (c .before .before .same .ensures ∙ rw (part-row (a .args .live .now) (a .args .i))) (a .pre .1) (a .pre .2) in
     rw (sym same ∙ not-false _ (c .before .if1 .left))
 
 pub is-key-spec : {M : Type 1} → statement M

@@ -1,13 +1,10 @@
 -- `place` meets its contract: each way is one case of the definition. Assumes nothing.
 use mathlib.Core.Path.{_≡_, sym, _∙_}
 use mathlib.Core.Logic.{_≢_}
-use Prim.Native.Nat.{_+_, _-_, _*_}
-use native.Mathlib.Omega.{arith}
 use borrow.Author.Needs.{needs}
 use borrow.Author.Tests.{eqb-true, eqb-false}
 use Rattle.sets.specs.Sets.{setOf}
-use Rattle.sets.specs.Table.{rowWords}
-use Rattle.sets.proofs.Table.{rules-part}
+use Rattle.sets.proofs.Table.{rules-part, part-row}
 use Rattle.meaning.specs.Rules.{Rules}
 use Rattle.book.specs.Meant.{rulesIn}
 use Rattle.build.specs.Course.{Others, others, onward, root, none}
@@ -31,9 +28,7 @@ tables-at a = others (a .args .fall .now) (a .args .held .now) (a .args .live .n
 on : (x : tie.After-extended) → setOf (x .extended .result) ≡ onward (rules-at (entry x)) (tables-at (entry x)) (entry x .args .s) (entry x .args .byte)
 on x =
     let a = entry x in
-    let b = rowWords * a .args .s in
-    let four : b + rowWords - b ≡ rowWords = omega arith in
-    x .extended .ensures .0 ∙ rw (four, rules-part (a .args .live .now) (a .args .s))
+    x .extended .ensures .0 ∙ rw (part-row (a .args .live .now) (a .args .s), rules-part (a .args .live .now) (a .args .s))
 
 slice-read-h : tie.Need-slice-read-h
 slice-read-h c = search needs

@@ -1,7 +1,7 @@
 -- `sets::write_members` meets its contract. The loop's invariant: to store the reports of what is left and has room, from `to` on,
 -- gives what the whole call is to give. The measure is how many are left. Assumes nothing.
 use mathlib.Core.Path.{_≡_, sym, ap, ap₂, _∙_}
-use mathlib.Core.List.{List, [], _∷_, _++_, append-nil, map}
+use mathlib.Core.List.{List, [], _∷_, _++_, append-nil}
 use Prim.Native.Nat.{ℕ, suc, _+_, _*_, _^_, _<_, _≤_}
 use native.Mathlib.Nat.{add-zero}
 use native.Mathlib.Numerals.{add-one, add-two}
@@ -10,7 +10,7 @@ use borrow.Author.Needs.{needs}
 use lib.ListN.{length, take, drop, length-set, length-map, take-append-drop}
 use lib.Seq.{sets, take-nil}
 use denote.Ref.{now}
-use Rattle.sets.specs.Sets.{members, reports, pairsFrom}
+use Rattle.sets.specs.Sets.{members, reports, pairsFrom, plusEach}
 use Rattle.sets.proofs.Members.{members-cons, members-empty, first-lt, reports-stored}
 use Rattle.sets.proofs.write_members.Statement.{statement}
 use Rattle.sets.proofs.write_members.Tie as tie
@@ -19,15 +19,11 @@ use Rattle.sets.proofs.write_members.Tie as tie
 abbrev due : ℕ → ℕ → ℕ → List ℕ
 due n to s = take (pairsFrom n to) (members 64 s)
 
--- counted from b on
-abbrev from : ℕ → List ℕ → List ℕ
-from b ks = map (λ k. b + k) ks
-
 abbrev Inv-loop : tie.InvT-loop
 Inv-loop set base end out₀ at left₀ to₀ out left to =
     (left < 2 ^ 64) × (length out ≡ length out₀) × (to ≤ length out₀)
     × (to + 2 * length (due (length out₀) to left) ≡ at + 2 * length (due (length out₀) at set))
-    × (sets out to (reports end (from base (due (length out₀) to left))) ≡ sets out₀ at (reports end (from base (due (length out₀) at set))))
+    × (sets out to (reports end (plusEach base (due (length out₀) to left))) ≡ sets out₀ at (reports end (plusEach base (due (length out₀) at set))))
 
 abbrev μ-loop : tie.MeasureT-loop
 μ-loop set base end out₀ at left₀ to₀ out left to = length (members 64 left)
@@ -109,14 +105,14 @@ stop : (c : tie.At-loop Inv-loop μ-loop) → let a = c .before .before .before 
     let n = length (now (a .out)) in
     let to = c .loop .to in
     due n to (c .loop .left) ≡ [] → (to ≡ a .at + 2 * length (due n (a .at) (a .set)))
-    × (c .loop .out ≡ take (a .at) (now (a .out)) ++ reports (a .end) (from (a .base) (due n (a .at) (a .set))) ++ drop to (now (a .out)))
+    × (c .loop .out ≡ take (a .at) (now (a .out)) ++ reports (a .end) (plusEach (a .base) (due n (a .at) (a .set))) ++ drop to (now (a .out)))
 unfolding reports
 stop c none =
     let a = c .before .before .before .args in
     let ks = due (length (now (a .out))) (a .at) (a .set) in
     let to : c .loop .to ≡ a .at + 2 * length ks = omega (arith, ap length none) in
-    let as-many : c .loop .to ≡ a .at + 2 * length (from (a .base) ks) = rw length-map to in
-    (to, rw none at (c .loop .inv .4) ∙ reports-stored (a .end) (from (a .base) ks) (now (a .out)) (a .at) (c .loop .to) as-many (c .loop .inv .2))
+    let as-many : c .loop .to ≡ a .at + 2 * length (plusEach (a .base) ks) = rw length-map to in
+    (to, rw none at (c .loop .inv .4) ∙ reports-stored (a .end) (plusEach (a .base) ks) (now (a .out)) (a .at) (c .loop .to) as-many (c .loop .inv .2))
 
 returns-2 : tie.Need-returns-2 Inv-loop μ-loop
 returns-2 c = stop (c .before) (rw (c .loop-test .left, members-empty 64, take-nil))

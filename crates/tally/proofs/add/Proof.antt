@@ -1,14 +1,15 @@
 -- `tally::add` meets its contract: to add for the words left makes of the sums what to add for all makes of the sums at entry. Assumes nothing.
-use Prim.Native.Nat.{ℕ, _+_, _-_, _*_, _≤_}
+use Prim.Native.Nat.{ℕ, _-_, _*_, _≤_}
 use mathlib.Core.Path.{_≡_, ap}
-use mathlib.Core.List.{List, map}
+use mathlib.Core.List.{List}
 use native.Mathlib.Omega.{arith}
 use borrow.Author.Needs.{needs}
 use lib.ListN.{length, drop, length-map, drop-of-length-le}
-use Rattle.sets.specs.Sets.{those, members, setOf, membersOf}
+use Rattle.sets.specs.Sets.{those, members, setOf, membersOf, plusEach}
 use Rattle.sets.specs.Table.{rowWords}
 use Rattle.sets.proofs.InWords.{from-start, count-drop, members-drop}
 use Rattle.sets.proofs.Members.{members-le}
+use Rattle.sets.proofs.Table.{members-whole}
 use Rattle.book.specs.Limits.{mostRules}
 use Rattle.tally.specs.Tally.{addAll}
 use Rattle.tally.specs.Passes.{Room}
@@ -18,18 +19,14 @@ use Rattle.tally.proofs.add.Tie as tie
 
 abbrev Inv-loop : tie.InvT-loop
 Inv-loop set count sums₀ i₀ sums i =
-    (i ≤ rowWords) × Room (length (membersOf (drop i set))) sums × (addAll count (map (λ k. 64 * i + k) (membersOf (drop i set))) sums ≡ addAll count (membersOf set) sums₀)
+    (i ≤ rowWords) × Room (length (membersOf (drop i set))) sums × (addAll count (plusEach (64 * i) (membersOf (drop i set))) sums ≡ addAll count (membersOf set) sums₀)
 
 abbrev μ-loop : tie.MeasureT-loop
 μ-loop set count sums₀ i₀ sums i = rowWords - i
 
--- the members of four words, and that they are at most all rules
-whole : (ws : List ℕ) → length ws ≡ rowWords → membersOf ws ≡ members mostRules (setOf ws)
-unfolding membersOf
-whole ws e = rw e
-
+-- the members of as many words as a row has are at most all rules
 few : (ws : List ℕ) → length ws ≡ rowWords → length (membersOf ws) ≤ mostRules
-few ws e = rw (whole ws e) (members-le mostRules (setOf ws))
+few ws e = rw (members-whole ws e) (members-le mostRules (setOf ws))
 
 loop-holds : tie.Need-loop-holds Inv-loop μ-loop
 loop-holds c =
@@ -80,7 +77,7 @@ returns c =
     let a = l .before .before in
     let ws = a .args .set .now in
     let past : length ws ≤ l .loop .i = omega (arith, a .pre .1) in
-    rw (drop-of-length-le ws past, whole ws (a .pre .1)) at (l .loop .inv .2)
+    rw (drop-of-length-le ws past, members-whole ws (a .pre .1)) at (l .loop .inv .2)
 
 pub add-spec : {M : Type 1} → statement M
 add-spec =

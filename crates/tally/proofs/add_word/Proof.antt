@@ -1,11 +1,11 @@
 -- `tally::add_word` meets its contract: to add for the rules left makes of the sums what to add for all makes of the sums at entry. Assumes nothing.
-use Prim.Native.Nat.{ℕ, _+_, _^_, _<_}
+use Prim.Native.Nat.{_+_, _^_, _<_}
 use mathlib.Core.Path.{_≡_, refl, sym, ap, ap₂, _∙_}
-use mathlib.Core.List.{List, [], _∷_, map}
+use mathlib.Core.List.{[], _∷_}
 use native.Mathlib.Omega.{arith}
 use borrow.Author.Needs.{needs}
 use lib.ListN.{length}
-use Rattle.sets.specs.Sets.{members}
+use Rattle.sets.specs.Sets.{members, plusEach}
 use Rattle.sets.proofs.Members.{members-cons, members-empty, first-lt}
 use Rattle.tally.specs.Tally.{addAll}
 use Rattle.tally.specs.Passes.{Room}
@@ -13,13 +13,9 @@ use Rattle.tally.proofs.Adding.{room-add}
 use Rattle.tally.proofs.add_word.Statement.{statement}
 use Rattle.tally.proofs.add_word.Tie as tie
 
--- counted from b on
-abbrev from : ℕ → List ℕ → List ℕ
-from b ks = map (λ k. b + k) ks
-
 abbrev Inv-loop : tie.InvT-loop
 Inv-loop word base count sums₀ left₀ sums left =
-    (left < 2 ^ 64) × Room (length (members 64 left)) sums × (addAll count (from base (members 64 left)) sums ≡ addAll count (from base (members 64 word)) sums₀)
+    (left < 2 ^ 64) × Room (length (members 64 left)) sums × (addAll count (plusEach base (members 64 left)) sums ≡ addAll count (plusEach base (members 64 word)) sums₀)
 
 abbrev μ-loop : tie.MeasureT-loop
 μ-loop word base count sums₀ left₀ sums left = length (members 64 left)

@@ -8,9 +8,8 @@ use lib.ListN.{length, drop}
 use Rattle.sets.specs.Sets.{those, members, membersOf}
 use Rattle.sets.specs.Table.{rowWords}
 use Rattle.sets.proofs.Members.{members-le}
-use Rattle.sets.proofs.Table.{rowOf, row-end, members-row}
-use Rattle.walk.specs.Walk.{reported}
-use Rattle.walk.proofs.Rows.{row-count}
+use Rattle.sets.proofs.Table.{rowOf, row-end}
+use Rattle.walk.proofs.Rows.{reported-row, row-count}
 use Rattle.walk.proofs.many.Statement.{statement}
 use Rattle.walk.proofs.many.Tie as tie
 
@@ -62,12 +61,12 @@ loop-again c =
     (omega arith, omega (arith, counted c), omega (arith, turn, c .size .ensures, l .loop .inv .2))
 
 returns : tie.Need-returns Inv-loop μ-loop
-unfolding reported membersOf members those
+unfolding membersOf members those
 returns c =
     let l = c .before in
     let a = l .before .before in
     let none = ap (λ ws. length (membersOf ws)) (row-end (a .args .out .now) (a .args .row) (a .pre) (l .loop .i) (omega arith)) in
-    (omega (arith, none, l .loop .inv .2, ap length (members-row (a .args .out .now) (a .args .row) (a .pre))), omega arith)
+    (omega (arith, none, l .loop .inv .2, ap length (reported-row (a .args .out .now) (a .args .row) (a .pre))), omega arith)
 
 pub many-spec : {M : Type 1} → statement M
 many-spec =

@@ -67,7 +67,7 @@ returns-2 c =
     let a = l .before .before .before .before .args in
     let w = l .loop .inv .1 in
     let all : l .loop .i ≡ rowWords = omega arith in
-    (sym (rules-words (a .out .now) (l .loop .set) (a .row) (w .long) (λ j h. sym (rw zero-add at (w .done j (omega arith))))), w .long)
+    (sym (rules-words (a .out .now) (a .row) (l .loop .set) (omega (arith, w .long)) (λ j h. sym (rw zero-add at (w .done j (omega arith))))), w .long)
 
 pub rules-spec : {M : Type 1} → statement M
 rules-spec =

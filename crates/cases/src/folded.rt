@@ -6,15 +6,28 @@ use crate::leaf::put8;
 use crate::report::draw;
 use crate::report::letter;
 
-// Up to four lines, of which one may be spoiled; half of the profiles end without LF. Answers the size.
+// Up to four lines, of which one may be spoiled and each may come twice; half of the profiles end without LF. Answers the size.
 pub fn profile(bytes: &mut [u8; 256], run: &mut [u64; 256]) -> usize {
     let lines = draw(run, 5);
     let spoiled = draw(run, 10);
     let mut size = 0;
     for i in 0..lines {
-        size = line(bytes, run, size, i == spoiled);
+        let from = size;
+        size = line(bytes, run, from, i == spoiled);
+        if draw(run, 4) == 0 {
+            size = again(bytes, from, size);
+        }
     }
     above(size, draw(run, 2))
+}
+
+// What lies there, once more behind it.
+fn again(bytes: &mut [u8; 256], from: usize, to: usize) -> usize {
+    for i in from..to {
+        let byte = at8(bytes, i);
+        put8(bytes, plus(to, above(i, from)), byte);
+    }
+    plus(to, above(to, from))
 }
 
 fn line(bytes: &mut [u8; 256], run: &mut [u64; 256], from: usize, is_spoiled: bool) -> usize {

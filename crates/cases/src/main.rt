@@ -64,6 +64,12 @@ fn many(turn: u64) -> usize {
 }
 
 fn tell(run: &[u64; 256]) {
+    tell_books(run);
+    tell_searches(run);
+    say(run, b"differences", report::DIFFERENCES);
+}
+
+fn tell_books(run: &[u64; 256]) {
     say_numbers(run, b"books read, by number", report::READ);
     say(
         run,
@@ -85,6 +91,10 @@ fn tell(run: &[u64; 256]) {
     say(run, b"of these sound", report::LARGE_SOUND);
     say(run, b"of these built", report::LARGE_BUILT);
     say(run, b"rows compared", report::ROWS);
+}
+
+// Texts and profiles.
+fn tell_searches(run: &[u64; 256]) {
     say_numbers(run, b"texts walked, by number", report::WALKED);
     say_numbers(run, b"long texts walked, by number", report::LONG);
     say_numbers(
@@ -93,6 +103,11 @@ fn tell(run: &[u64; 256]) {
         report::DAMAGED,
     );
     say_numbers(run, b"profiles tallied, by number", report::TALLIED);
+    say(
+        run,
+        b"reports that a line had counted before",
+        report::AGAIN,
+    );
     say_numbers(run, b"counts at the limit, by number", report::COUNTS);
     say_numbers(
         run,
@@ -101,5 +116,4 @@ fn tell(run: &[u64; 256]) {
     );
     say(run, b"reports", report::REPORTS);
     say(run, b"fallbacks", report::FALLS);
-    say(run, b"differences", report::DIFFERENCES);
 }

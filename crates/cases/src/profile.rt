@@ -1,4 +1,4 @@
-// The second tally, by the paper's words: first the lines of a folded profile, then their frames, then what each frame adds.
+// The second tally, by the paper's words: first the lines of a folded profile, then their frames, then what each frame adds to what its line has added.
 use crate::fitting;
 use crate::fitting::Fits;
 use crate::fitting::Found;
@@ -108,7 +108,8 @@ pub fn refusal(lent: usize, n: usize, profile: &[u8], size: usize, places: usize
 
 // ---- frames
 
-// Each frame has three places in `frames`: where it starts, where it ends, and its line's count. Answers how many frames there are.
+// Each frame has four places in `frames`: where it starts, where it ends, its line's count, and a number that the line has alone, which is not 0.
+// Answers how many frames there are.
 pub fn frames_of(profile: &[u8], size: usize, frames: &mut [u64; 1024]) -> usize {
     let mut from = 0;
     let mut number = 0;
@@ -140,49 +141,71 @@ fn stack(
             break;
         }
         let to = next(profile, from, space, FRAME_END);
-        note(frames, number, from, to, count);
+        note(frames, number, from, to, count, plus(start, 1));
         number = plus(number, 1);
         from = plus(to, 1);
     }
     number
 }
 
-fn note(frames: &mut [u64; 1024], number: usize, from: usize, to: usize, count: u64) {
-    let place = 3 * (number % 65536);
+fn note(frames: &mut [u64; 1024], number: usize, from: usize, to: usize, count: u64, line: usize) {
+    let place = 4 * (number % 65536);
     put64(frames, place, from as u64);
     put64(frames, place + 1, to as u64);
     put64(frames, place + 2, count);
+    put64(frames, place + 3, line as u64);
 }
 
 fn part(frames: &[u64; 1024], number: usize, which: usize) -> u64 {
-    at64(frames, plus(3 * (number % 65536), which))
+    at64(frames, plus(4 * (number % 65536), which))
 }
 
 // ---- sums
 
-// Adds the count for each report. The pairs have room for every rule at each end of a frame, which is shorter than 16 bytes.
-fn add(sums: &mut [u64; 256], pairs: &[u32; 8192], reports: usize, count: u64) {
+// Adds the frame's count for each rule that it reports, unless its line has added it: `last` holds the line that last added to a sum. Answers how many
+// reports were left out. The pairs have room for every rule at each end of a frame, which is shorter than 16 bytes.
+fn add(
+    sums: &mut [u64; 256],
+    last: &mut [u64; 256],
+    pairs: &[u32; 8192],
+    reports: usize,
+    count: u64,
+    line: u64,
+) -> usize {
+    let mut out = 0;
     for i in 0..reports {
         let k = at32(pairs, plus(plus(i, i), 1)) as usize;
-        let sum = std::num::wrapping_add_u64(at64(sums, k), count);
-        put64(sums, k, sum);
+        if at64(last, k) == line {
+            out = plus(out, 1);
+        } else {
+            put64(last, k, line);
+            let sum = std::num::wrapping_add_u64(at64(sums, k), count);
+            put64(sums, k, sum);
+        }
     }
+    out
 }
 
+// Answers how many reports were left out.
 pub fn by_rules(
     fit: &Fits,
     profile: &[u8],
     frames: &[u64; 1024],
     number: usize,
     sums: &mut [u64; 256],
-) {
+) -> usize {
     let mut pairs = [0u32; 8192];
+    let mut last = [0u64; 256];
+    let mut out = 0;
     for i in 0..number {
         let from = part(frames, i, 0) as usize;
         let to = part(frames, i, 1) as usize;
+        let count = part(frames, i, 2);
+        let line = part(frames, i, 3);
         let found = fitting::search(fit, profile, from, to, &mut pairs);
-        add(sums, &pairs, found.value, part(frames, i, 2));
+        out = plus(out, add(sums, &mut last, &pairs, found.value, count, line));
     }
+    out
 }
 
 // By the tables, which may be damaged: then 13, with the byte.
@@ -198,6 +221,7 @@ pub fn by_tables(
     sums: &mut [u64; 256],
 ) -> Found {
     let mut pairs = [0u32; 8192];
+    let mut last = [0u64; 256];
     for i in 0..number {
         let found = frame(
             goto,
@@ -209,6 +233,7 @@ pub fn by_tables(
             frames,
             i,
             &mut pairs,
+            &mut last,
             sums,
         );
         if found.number != 0 {
@@ -228,13 +253,16 @@ fn frame(
     frames: &[u64; 1024],
     i: usize,
     pairs: &mut [u32; 8192],
+    last: &mut [u64; 256],
     sums: &mut [u64; 256],
 ) -> Found {
     let from = part(frames, i, 0) as usize;
     let to = part(frames, i, 1) as usize;
+    let count = part(frames, i, 2);
+    let line = part(frames, i, 3);
     let found = tables::run(goto, fall, held, out, n, profile, from, to, pairs);
     if found.number == 0 {
-        add(sums, pairs, found.value, part(frames, i, 2));
+        add(sums, last, pairs, found.value, count, line);
     }
     found
 }

@@ -8,6 +8,9 @@ use crate::leaf::put64;
 // Places of a run. From the first seven on the counts are by number.
 pub const READ: usize = 0;
 
+// Past the numbers of the books read: reports of a rule that a line's tally has counted.
+pub const AGAIN: usize = 31;
+
 pub const BUILT: usize = 32;
 
 pub const WALKED: usize = 64;

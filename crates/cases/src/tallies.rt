@@ -124,7 +124,8 @@ fn over_rules(
     let mut frames = [0u64; 1024];
     let number = profile::frames_of(bytes, size, &mut frames);
     let mut sums = [0u64; 256];
-    profile::by_rules(fit, bytes, &frames, number, &mut sums);
+    let again = profile::by_rules(fit, bytes, &frames, number, &mut sums);
+    count(run, report::AGAIN, again);
     let places = places_for(run);
     tally_text(
         run,

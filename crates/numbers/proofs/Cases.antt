@@ -13,7 +13,7 @@ use Rattle.book.specs.Content.{member, table}
 use Rattle.walk.specs.Walk.{lookAt, moveIn, moveFrom, reported, runFrom, reportsFrom, written}
 use Rattle.walk.proofs.Occurrences.{occurrencesFrom}
 use Rattle.tally.specs.Lines.{split, linesOf, lastFrom, numberFrom, countOf, lineOf}
-use Rattle.tally.specs.Totals.{FirstBroken, timesFrom, timesIn, partOf, partsOf}
+use Rattle.tally.specs.Totals.{FirstBroken, endsFrom, once, partsOf}
 use Rattle.tally.specs.Written.{startOf}
 use Rattle.numbers.specs.Inputs.{aab1-ab-3, a-01}
 use Rattle.numbers.specs.Cases.{cases, All, none, also}
@@ -27,7 +27,7 @@ unfolding split lastFrom numberFrom countOf lineOf
 a-01-broken = record { below = omega arith; broken = refl; before = λ j l. absurd (omega arith) }
 
 pub numbers : All cases
-unfolding isBytes below table member has setWhere those members reports setOf rowSet rulesAt fits fitsAt stands level opens largest held ends out longest nextLongest fitsWith fallsFrom falls fallsIn occurrencesFrom lookAt moveIn moveFrom reported runFrom reportsFrom written split lastFrom numberFrom countOf lineOf startOf timesFrom timesIn partOf partsOf
+unfolding isBytes below table member has setWhere those members reports setOf rowSet rulesAt fits fitsAt stands level opens largest held ends out longest nextLongest fitsWith fallsFrom falls fallsIn occurrencesFrom lookAt moveIn moveFrom reported runFrom reportsFrom written split lastFrom numberFrom countOf lineOf startOf endsFrom once partsOf
 numbers =
     also (refusing [] empty-refused)
     (also (enough means-A A-right refl refl refl)

@@ -16,7 +16,7 @@ use Rattle.book.proofs.Tables.{is-table}
 use Rattle.build.specs.Promise.{valueOf}
 use Rattle.walk.proofs.Whole.{built}
 use Rattle.tally.specs.Lines.{linesOf, lineOf, onLine}
-use Rattle.tally.specs.Totals.{Call, after, AllSound, FirstBroken, total, times}
+use Rattle.tally.specs.Totals.{Call, after, AllSound, FirstBroken, total, occursIn}
 use Rattle.tally.specs.Written.{startOf}
 use Rattle.tally.proofs.Demands.{refuses, sums}
 use Rattle.numbers.specs.Cases.{tally, refusal, Holds}
@@ -42,7 +42,7 @@ are-sound : (ls : List (List ℕ)) → T (areSound ls) → AllSound ls
 are-sound ls x i l e = rw e at (below-at (length ls) (λ i. onLine (lineOf (getD ls i [])) (λ stack count. true) false) x i l)
 
 pub summing : {a : Content} {bytes : List ℕ} → Means bytes a → (profile : List ℕ) → isSmall a profile ≡ true → T (areSound (linesOf profile))
-    → Holds (tally bytes profile 0 0 (table mostRules (λ k. total (times (rulesOf a) k) profile)))
+    → Holds (tally bytes profile 0 0 (table mostRules (λ k. total (occursIn (rulesOf a) k) profile)))
 summing {a} e profile x lines old b y p z buffer places =
     let (t, lends) = built (built-of (e .meant) p) z in
     let s = small a profile x in
@@ -52,6 +52,6 @@ summing {a} e profile x lines old b y p z buffer places =
     let long = length-take-le mostRules (after w) (omega (arith, refuses w .long)) in
     record {
       answers = accepted;
-      sums-are = is-table mostRules (λ k. total (times (rulesOf a) k) profile) (take mostRules (after w)) long (λ k l. getD-take mostRules (after w) k 0 l ∙ told .sums accepted k l);
+      sums-are = is-table mostRules (λ k. total (occursIn (rulesOf a) k) profile) (take mostRules (after w)) long (λ k l. getD-take mostRules (after w) k 0 l ∙ told .sums accepted k l);
       later-are = refuses w .later;
     }

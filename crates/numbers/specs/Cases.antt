@@ -59,7 +59,7 @@ cases =
     ∷ row 0 (97 ∷ []) (7 ∷ 7 ∷ []) 0 (0 ∷ 0 ∷ 0 ∷ []) (7 ∷ 7 ∷ [])
     ∷ row 65535 (97 ∷ []) (7 ∷ 7 ∷ []) 13 (0 ∷ []) (7 ∷ 7 ∷ [])
     -- 11: Y on aab1;ab 3
-    ∷ tally bytesY aab1-ab-3 0 0 (3 ∷ 0 ∷ 6 ∷ replicate 253 0)
+    ∷ tally bytesY aab1-ab-3 0 0 (3 ∷ 0 ∷ 3 ∷ replicate 253 0)
     -- 12: a 01
     ∷ refusal a-01 15 0
     ∷ []

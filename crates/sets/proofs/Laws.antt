@@ -91,6 +91,9 @@ has-or a b k =
     ap (λ n. eqb (n % 2) 1) (or-shr a b k) ∙ ap (λ n. eqb n 1) (or-mod x y 1)
     ∙ digits (λ x y. eqb (bitOr x y) 1 ≡ eqb x 1 || eqb y 1) refl refl refl refl (x % 2) (y % 2) (low x) (low y)
 
+pub union-assoc : (a b c : ℕ) → bitOr (bitOr a b) c ≡ bitOr a (bitOr b c)
+union-assoc a b c = same _ _ (λ k. simp has-or (or-assoc (has a k) (has b k) (has c k)))
+
 -- k is no member: to add 2 ^ k is to put k in
 and-one : (s k : ℕ) → has s k ≡ false → bitAnd s (2 ^ k) ≡ 0
 and-one s zero e = and-mask s 1 ∙ digit-eq (s % 2) 0 (low s) (zero-lt-suc 1) (sym (has-zero s) ∙ e)

@@ -1,4 +1,5 @@
 -- What a tally answers and leaves: over any tables, over the tables of rules, and over the buffers that a build left. Assumes nothing.
+use mathlib.Core.Bool.{Bool}
 use mathlib.Core.List.{List, _++_}
 use mathlib.Core.Logic.{_⊎_, inl, inr, _≢_}
 use mathlib.Core.Path.{_≡_, refl, sym, ap, fun-ext, _∙_}
@@ -26,13 +27,14 @@ use Rattle.tally.specs.declared.Tallied.{Tallied}
 use Rattle.tally.specs.declared.Tallied.the-variants.{Accepted, TooLong, BadRows, FewSums, BadLine, Damaged}
 use Rattle.tally.specs.Lines.{linesOf, checkOf}
 use Rattle.tally.specs.Tally.{linesPass, sumsOf, moveBy, judged, walked, bufferOf, numberOf, valueOf}
-use Rattle.tally.specs.Totals.{SumsFit, Call, answer, after, Answers, AllSound, Ready, among, reportsIn, total, Refusals, Refuses, times, Over, Summed, Sums, Tells, Tallies}
-use Rattle.tally.proofs.Walks.{lines-length, lines-room}
+use Rattle.tally.specs.Totals.{Call, answer, after, Answers, AllSound, Ready, reportsIn, total, Refusals, Refuses, SumsWithin, occursIn, Over, Summed, Sums, Tells, Tallies}
+use Rattle.tally.proofs.Walks.{lines-length}
 use Rattle.tally.proofs.Answers.{tallied}
-use Rattle.tally.proofs.Times.{occurrences}
+use Rattle.tally.proofs.Occurring.{occurrences}
 use Rattle.tally.proofs.Walked.{frame-reports}
 use Rattle.tally.proofs.Lost.{none-lost, lost-at}
 use Rattle.tally.proofs.Totals.{sum-is, lines-through, sum-occurs}
+use Rattle.tally.proofs.Counts.{total-le}
 use Rattle.tally.proofs.First.{checked, broken-at}
 
 -- ---- over any tables
@@ -147,7 +149,7 @@ module _ (w : Call) where
   sums-told (refused ne _) a k l = absurd (ne (a .number-is))
   sums-told (ready x) a k l =
       sums-are a k l ∙ sum-is (moveBy (w .tables) (w .n)) (rulesAt (w .tables .out)) k l (w .profile)
-      ∙ ap (λ (often : List ℕ → ℕ). total often (w .profile)) (fun-ext (λ frame. ap (among k) (frame-reports (w .tables) (w .n) (x .lends) (x .some) frame)))
+      ∙ ap (λ (test : List ℕ → Bool). total test (w .profile)) (fun-ext (λ frame. sym (frame-reports (w .tables) (w .n) (x .lends) (x .some) frame k l)))
 
   roomy : Start → numberOf (answer w) ≡ 0 → mostRules ≤ length (w .sums)
   roomy (refused ne _) z = absurd (ne z)
@@ -167,11 +169,11 @@ module _ (w : Call) where
     long = long (answer w) found (w .sums) found-length (roomy start);
   }
 
-pub sums-fit : SumsFit
-sums-fit w short k = omega (arith, lines-room (moveBy (w .tables) (w .n)) (rulesAt (w .tables .out)) (w .profile) short .fits k)
-
 pub refuses : Refuses
 refuses w = refusals w
+
+pub sums-within : SumsWithin
+sums-within w a k l = rw (refuses w .sums a k l) (total-le (reportsIn (w .tables) (w .n) k) (w .profile))
 
 -- ---- over the tables of rules
 
@@ -187,7 +189,7 @@ module _ {r : Rules} {w : Call} (over : Over r w) where
   undamaged (refused _ ne) = ne
   undamaged (ready x) = rw (answer-is w x refl, walks-through (x .lends)) (no-damage (checkOf (w .profile)))
 
-  sum-of : Start w → Answers w 0 0 → (k : ℕ) → k < mostRules → getD (after w) k 0 ≡ total (times r k) (w .profile)
+  sum-of : Start w → Answers w 0 0 → (k : ℕ) → k < mostRules → getD (after w) k 0 ≡ total (occursIn r k) (w .profile)
   sum-of (refused ne _) a k l = absurd (ne (a .number-is))
   sum-of (ready x) a k l = sums-are w a k l ∙ sum-occurs (over .tables) (x .lends) k l (w .profile) (over .bytes)
 

@@ -16,7 +16,8 @@ use Rattle.tally.specs.declared.Line.{Line}
 use Rattle.tally.specs.declared.Line.the-variants.{Sound, Broken}
 use Rattle.tally.specs.declared.Pass.{Pass}
 use Rattle.tally.specs.declared.Pass.the-variants.{Through}
-use Rattle.tally.specs.Lines.{lf, space, mostCount, joined, split, linesOf, upTo, onPass, passOver, numberFrom, limited, lastFrom, lineOf}
+use Rattle.tally.specs.Lines.{lf, space, mostCount, joined, split, linesOf, upTo, onPass, passOver, numberFrom, limited, lastFrom, lineOf, onLine}
+use Rattle.tally.specs.Totals.{countIn}
 use Rattle.tally.proofs.Written.{LineTells, line-tells}
 
 -- ---- the first mark
@@ -77,21 +78,29 @@ module _ (s : List ℕ) (at so : ℕ) where
 
 -- ---- a line
 
--- a stack is a part of its line, and its count a small one
+-- a stack is a part of its line, which goes on, and its count a small one
 abbrev pub Right : List ℕ → Line → Type 0
-Right line (Sound stack count) = (stack ≤ length line) × (count ≤ mostCount)
+Right line (Sound stack count) = (stack < length line) × (count ≤ mostCount)
 Right line Broken = Unit {0}
 
 tells-right : (line : List ℕ) (l : Line) → LineTells line l → Right line l
 tells-right line (Sound n k) (stack, digits, x, e) = (omega (arith, ap length (x .whole), length-append stack (space ∷ digits)), x .count .small)
 tells-right line Broken x = tt
 
-pub line-right : (line : List ℕ) → Right line (lineOf line)
+line-right : (line : List ℕ) → Right line (lineOf line)
 line-right line = tells-right line (lineOf line) (line-tells line)
 
 -- what a line r that is q tells
 pub line-is : (line : List ℕ) {r q : Line} → r ≡ lineOf line → r ≡ q → Right line q × (lineOf line ≡ q)
 line-is line p q = (rw (← q, p) (line-right line), rw (← p) q)
+
+-- its count is small, and 0 where the line has no byte
+pub count-right : (line : List ℕ) → (countIn line ≤ mostCount) × (countIn line ≤ mostCount * length line)
+count-right line = go (lineOf line) (line-right line)
+  where
+    go : (l : Line) → Right line l → (onLine l (λ stack count. count) 0 ≤ mostCount) × (onLine l (λ stack count. count) 0 ≤ mostCount * length line)
+    go (Sound stack count) w = (w .1, omega (arith, w .0, w .1))
+    go Broken w = (omega arith, omega arith)
 
 -- ---- pieces
 

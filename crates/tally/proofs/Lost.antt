@@ -2,21 +2,21 @@
 use Prim.Native.Nat.{ℕ, zero, suc, _+_, _≤_, _<_}
 use mathlib.Core.List.{List, [], _∷_}
 use mathlib.Core.Logic.{_≢_}
-use mathlib.Core.Path.{_≡_, refl, ap, _∙_}
+use mathlib.Core.Path.{_≡_, ap, _∙_}
 use native.Mathlib.Omega.{arith}
 use lib.ListN.{length, getD, take, length-take}
-use Rattle.walk.specs.declared.Moved.{Moved}
 use Rattle.walk.specs.Walk.{numberOf}
 use Rattle.tally.specs.declared.Line.{Line}
 use Rattle.tally.specs.declared.Line.the-variants.{Sound, Broken}
 use Rattle.tally.specs.declared.Pass.the-variants.{Through, Ends}
-use Rattle.tally.specs.Lines.{lf, semicolon, linesOf, framesOf, passOver, lineOf, onLine}
+use Rattle.tally.specs.Lines.{lf, semicolon, linesOf, framesOf, lineOf, onLine}
 use Rattle.tally.specs.Written.{startOf}
-use Rattle.tally.specs.Tally.{framePass, stackPass, linePass, linesPass, moveBy}
+use Rattle.tally.specs.Tally.{framePass, linePass, linesPass, moveBy}
 use Rattle.tally.specs.Totals.{Call, Ready, framesIn, frameAt, walkOver, FirstLost, NoneLost}
 use Rattle.tally.proofs.Lines.{bytesIn, split-bytes}
 use Rattle.tally.proofs.Pieces.{start-from}
 use Rattle.tally.proofs.First.{pass-through, pass-first}
+use Rattle.tally.proofs.Walks.{frames-pass}
 use Rattle.tally.proofs.Walked.{frame-lost, frame-kept}
 
 -- ---- a frame is no longer than the profile
@@ -37,17 +37,6 @@ frame-le : (profile : List ℕ) (i j : ℕ) → length (frameAt profile i j) ≤
 frame-le profile i j =
     let line = getD (linesOf profile) i [] in
     omega (arith, piece-le (framesIn line) j, frames-le line, piece-le (linesOf profile) i, split-bytes lf [] profile)
-
--- ---- a line's pass is that of its frames
-
-frames-pass : (move : ℕ → ℕ → Moved) (at : ℕ) (line : List ℕ) → linePass move at line ≡ passOver (framePass move) at (framesIn line)
-unfolding linePass stackPass passOver
-frames-pass move at line = go (lineOf line)
-  where
-    go : (l : Line) → onLine l (λ stack count. passOver (framePass move) at (framesOf (take stack line))) Through
-        ≡ passOver (framePass move) at (onLine l (λ stack count. framesOf (take stack line)) [])
-    go (Sound stack count) = refl
-    go Broken = refl
 
 module _ (w : Call) (x : Ready w) where
   -- a frame whose walk is not refused with 13

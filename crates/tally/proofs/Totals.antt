@@ -1,16 +1,18 @@
--- A tally over the tables of rules gets through, and its sums are those of the rules and the profile alone. Assumes nothing.
-use mathlib.Core.Bool.{Bool, true, false, cond}
+-- Each sum is a total of lines' counts; a tally over the tables of rules gets through, and its sums are those of the rules and the profile alone.
+-- Assumes nothing.
+use mathlib.Core.Bool.{Bool, true, false, cond, _||_}
 use mathlib.Core.List.{List, [], _∷_}
-use mathlib.Core.Path.{_≡_, refl, _∙_}
-use Prim.Native.Nat.{ℕ, zero, suc, _+_, _*_, _≤_, _<_}
+use mathlib.Core.Path.{_≡_, refl, ap, _∙_}
+use Prim.Native.Nat.{ℕ, zero, suc, _+_, _≤_, _<_}
 use native.Mathlib.Nat.{add-zero, zero-add, add-assoc}
 use native.Mathlib.Omega.{arith}
 use lib.Dec.{eqb}
 use lib.ListN.{length, getD, take, replicate}
 use Rattle.rows.specs.Rows.{ByteText, IsRow}
 use Rattle.rows.proofs.Build.{byte-cons}
-use Rattle.sets.specs.Sets.{has, members}
+use Rattle.sets.specs.Sets.{has}
 use Rattle.sets.specs.Table.{rulesAt}
+use Rattle.sets.proofs.Laws.{has-empty, has-or}
 use Rattle.meaning.specs.Rules.{Rules}
 use Rattle.meaning.specs.Standing.{Same}
 use Rattle.meaning.specs.Tables.{Five, Tables}
@@ -24,11 +26,10 @@ use Rattle.tally.specs.declared.Line.the-variants.{Sound, Broken}
 use Rattle.tally.specs.declared.Pass.{Pass}
 use Rattle.tally.specs.declared.Pass.the-variants.{Through}
 use Rattle.tally.specs.Lines.{lf, semicolon, joined, split, linesOf, framesOf, passOver, lineOf, onLine}
-use Rattle.tally.specs.Tally.{addAll, passFrom, rulesFrom, framePass, frameRules, rulesOver, stackPass, stackRules, linePass, lineSums, sumsOver, linesPass, linesSums, sumsOf, moveBy}
-use Rattle.tally.specs.Totals.{among, timesFrom, times, timesIn, partOf, partsOf, total}
-use Rattle.tally.proofs.Adding.{zero-at}
-use Rattle.tally.proofs.Walks.{line-length}
-use Rattle.tally.proofs.Times.{among-append, among-those, add-times}
+use Rattle.tally.specs.Tally.{passFrom, rulesFrom, framePass, frameRules, rulesOver, linePass, lineSums, sumsOver, linesPass, linesSums, sumsOf, moveBy}
+use Rattle.tally.specs.Totals.{framesIn, countIn, once, partsOf, total, endsFrom, occursIn}
+use Rattle.tally.proofs.Adding.{zero-at, add-members}
+use Rattle.tally.proofs.Walks.{frames-pass, line-adds, line-length}
 
 -- ---- pieces of bytes
 
@@ -57,29 +58,36 @@ take-bytes zero text b = no-byte
 take-bytes (suc i) [] b = no-byte
 take-bytes (suc i) (c ∷ text) b = byte-cons c (take i text) (b 0) (take-bytes i text (λ j. b (suc j)))
 
-frames-all : (n : ℕ) (line : List ℕ) → ByteText line → All (framesOf (take n line))
-frames-all n line b = split-all semicolon ([] ∷ []) (more no-byte empty) (take n line) (take-bytes n line b)
+-- the frames of a line, of which one that breaks the rules has none
+frames-all : (line : List ℕ) → ByteText line → All (framesIn line)
+frames-all line b = go (lineOf line)
+  where
+    go : (l : Line) → All (onLine l (λ stack count. framesOf (take stack line)) [])
+    go (Sound stack count) = split-all semicolon ([] ∷ []) (more no-byte empty) (take stack line) (take-bytes stack line b)
+    go Broken = empty
 
 -- ---- sums, whatever lies behind a move
 
+-- one of two tests is passed
+either : (a b : Bool) (count : ℕ) → cond (a || b) count 0 ≡ cond a count (cond b count 0)
+either true b count = refl
+either false b count = refl
+
 module _ (move : ℕ → ℕ → Moved) (rules : ℕ → ℕ) (k : ℕ) (small : k < mostRules) where
-  -- how often a frame reports rule k
-  abbrev reporting : List ℕ → ℕ
-  reporting frame = among k (frameRules move rules frame)
+  -- whether a frame reports rule k
+  abbrev reporting : List ℕ → Bool
+  reporting frame = has (frameRules move rules frame) k
 
-  frames-times : (fs : List (List ℕ)) → among k (rulesOver move rules fs) ≡ timesIn reporting fs
-  unfolding rulesOver timesIn among
-  frames-times [] = refl
-  frames-times (f ∷ fs) = rw (among-append, frames-times fs)
+  frames-once : (count : ℕ) (fs : List (List ℕ)) → cond (has (rulesOver move rules fs) k) count 0 ≡ once reporting count fs
+  unfolding rulesOver once
+  frames-once count [] = rw (has-empty k)
+  frames-once count (f ∷ fs) =
+      rw has-or (either (reporting f) (has (rulesOver move rules fs) k) count) ∙ ap (cond (reporting f) count) (frames-once count fs)
 
-  line-part : (line sums : List ℕ) → k < length sums → getD (lineSums move rules line sums) k 0 ≡ getD sums k 0 + partOf reporting line
-  unfolding lineSums partOf stackRules
-  line-part line sums h = go (lineOf line)
-    where
-      go : (l : Line) → getD (onLine l (λ stack count. addAll count (stackRules move rules (take stack line)) sums) sums) k 0
-          ≡ getD sums k 0 + onLine l (λ stack count. count * timesIn reporting (framesOf (take stack line))) 0
-      go (Sound stack count) = add-times count k (stackRules move rules (take stack line)) sums h ∙ rw (frames-times (framesOf (take stack line)))
-      go Broken = rw add-zero
+  line-part : (line sums : List ℕ) → k < length sums → getD (lineSums move rules line sums) k 0 ≡ getD sums k 0 + once reporting (countIn line) (framesIn line)
+  line-part line sums h =
+      rw (line-adds move rules line sums) (add-members (countIn line) mostRules (rulesOver move rules (framesIn line)) k sums small h)
+      ∙ ap (λ m. getD sums k 0 + m) (frames-once (countIn line) (framesIn line))
 
   lines-part : (ls : List (List ℕ)) (sums : List ℕ) → k < length sums → getD (sumsOver move rules ls sums) k 0 ≡ getD sums k 0 + partsOf reporting ls
   unfolding sumsOver partsOf
@@ -90,25 +98,17 @@ module _ (move : ℕ → ℕ → Moved) (rules : ℕ → ℕ) (k : ℕ) (small :
   unfolding linesSums
   sum-is profile = lines-part (linesOf profile) (replicate mostRules 0) small ∙ rw (zero-at mostRules k, zero-add)
 
--- two numbers of a frame that agree on bytes have the same totals over a profile of bytes
-module _ (f g : List ℕ → ℕ) (same : (frame : List ℕ) → ByteText frame → f frame ≡ g frame) where
-  times-same : (fs : List (List ℕ)) → All fs → timesIn f fs ≡ timesIn g fs
-  unfolding timesIn
-  times-same [] empty = refl
-  times-same (x ∷ fs) (more bytes a) = rw (same x bytes, times-same fs a)
-
-  part-same : (line : List ℕ) → ByteText line → partOf f line ≡ partOf g line
-  unfolding partOf
-  part-same line bytes = go (lineOf line)
-    where
-      go : (l : Line) → onLine l (λ stack count. count * timesIn f (framesOf (take stack line))) 0 ≡ onLine l (λ stack count. count * timesIn g (framesOf (take stack line))) 0
-      go (Sound stack count) = rw (times-same (framesOf (take stack line)) (frames-all stack line bytes))
-      go Broken = refl
+-- two tests of a frame that agree on bytes have the same totals over a profile of bytes
+module _ (f g : List ℕ → Bool) (same : (frame : List ℕ) → ByteText frame → f frame ≡ g frame) where
+  once-same : (count : ℕ) (fs : List (List ℕ)) → All fs → once f count fs ≡ once g count fs
+  unfolding once
+  once-same count [] empty = refl
+  once-same count (x ∷ fs) (more bytes a) = rw (same x bytes, once-same count fs a)
 
   parts-same : (ls : List (List ℕ)) → All ls → partsOf f ls ≡ partsOf g ls
   unfolding partsOf
   parts-same [] empty = refl
-  parts-same (l ∷ ls) (more bytes a) = rw (part-same l bytes, parts-same ls a)
+  parts-same (l ∷ ls) (more bytes a) = rw (once-same (countIn l) (framesIn l) (frames-all l bytes), parts-same ls a)
 
   total-same : (profile : List ℕ) → ByteText profile → total f profile ≡ total g profile
   total-same profile bytes = parts-same (linesOf profile) (split-all lf [] empty profile bytes)
@@ -141,12 +141,7 @@ module _ {r : Rules} {b : Five} {n : ℕ} (tables : Tables r b n) (lends : n ≤
   frame-through at frame bytes = from-through frame bytes at (row-first tables)
 
   line-through : (at : ℕ) (line : List ℕ) → ByteText line → linePass move at line ≡ Through
-  unfolding linePass stackPass
-  line-through at line bytes = go (lineOf line)
-    where
-      go : (l : Line) → onLine l (λ stack count. stackPass move at (take stack line)) Through ≡ Through
-      go (Sound stack count) = through (framePass move) frame-through (framesOf (take stack line)) (frames-all stack line bytes) at
-      go Broken = refl
+  line-through at line bytes = frames-pass move at line ∙ through (framePass move) frame-through (framesIn line) (frames-all line bytes) at
 
   pub lines-through : (profile : List ℕ) → ByteText profile → linesPass move profile ≡ Through
   unfolding linesPass
@@ -155,16 +150,16 @@ module _ {r : Rules} {b : Five} {n : ℕ} (tables : Tables r b n) (lends : n ≤
   -- ---- the sums
 
   module _ (k : ℕ) (small : k < mostRules) where
-    from-times : (frame : List ℕ) → ByteText frame → {t : List ℕ} {i : ℕ} → IsRow (Same r) (tables .texts) t i → among k (rulesFrom move rules i frame) ≡ timesFrom r k t frame
-    unfolding rulesFrom timesFrom among members
-    from-times [] bytes x = refl
-    from-times (c ∷ frame) bytes {t} {i} x =
+    from-ends : (frame : List ℕ) → ByteText frame → {t : List ℕ} {i : ℕ} → IsRow (Same r) (tables .texts) t i → has (rulesFrom move rules i frame) k ≡ endsFrom r k t frame
+    unfolding rulesFrom endsFrom
+    from-ends [] bytes x = has-empty k
+    from-ends (c ∷ frame) bytes {t} {i} x =
         let (e, m, o, y) = moves r b n tables lends t i c x (bytes 0) in
-        rw (m, o, among-append, among-those (has _) k 0 mostRules (omega arith) (omega arith), from-times frame (λ j. bytes (suc j)) y)
+        rw (m, o, has-or, from-ends frame (λ j. bytes (suc j)) y)
 
-    frame-times : (frame : List ℕ) → ByteText frame → among k (frameRules move rules frame) ≡ times r k frame
+    frame-occurs : (frame : List ℕ) → ByteText frame → has (frameRules move rules frame) k ≡ occursIn r k frame
     unfolding frameRules
-    frame-times frame bytes = from-times frame bytes (row-first tables)
+    frame-occurs frame bytes = from-ends frame bytes (row-first tables)
 
-    pub sum-occurs : (profile : List ℕ) → ByteText profile → getD (sumsOf move rules profile) k 0 ≡ total (times r k) profile
-    sum-occurs profile bytes = sum-is move rules k small profile ∙ total-same (reporting move rules k small) (times r k) frame-times profile bytes
+    pub sum-occurs : (profile : List ℕ) → ByteText profile → getD (sumsOf move rules profile) k 0 ≡ total (occursIn r k) profile
+    sum-occurs profile bytes = sum-is move rules k small profile ∙ total-same (reporting move rules k small) (occursIn r k) frame-occurs profile bytes

@@ -2,14 +2,16 @@
 use mathlib.Core.Bool.{Bool, true, false, cond}
 use mathlib.Core.List.{List, [], _∷_, _++_}
 use mathlib.Core.Logic.{_≢_}
-use mathlib.Core.Path.{_≡_, refl, ap, _∙_}
+use mathlib.Core.Path.{_≡_, refl, sym, ap, _∙_}
 use Prim.Native.Nat.{ℕ, _+_, _/_, _≤_, _<_}
 use native.Mathlib.Nat.{add-zero}
 use native.Mathlib.Omega.{arith}
+use lib.Bits.{bitOr}
 use lib.Dec.{ltb}
 use lib.ListN.{length, getD}
-use Rattle.sets.specs.Sets.{members, reports as pairs}
+use Rattle.sets.specs.Sets.{has, members, reports as pairs}
 use Rattle.sets.specs.Table.{rulesAt}
+use Rattle.sets.proofs.Laws.{has-empty, has-or}
 use Rattle.meaning.specs.Tables.{Five}
 use Rattle.book.specs.Limits.{mostRules, mostBytes}
 use Rattle.build.specs.Promise.{lent}
@@ -19,12 +21,13 @@ use Rattle.walk.specs.declared.Moved.{Moved}
 use Rattle.walk.specs.declared.Moved.the-variants.{Reached, Lost}
 use Rattle.walk.specs.declared.Walked.{Walked}
 use Rattle.walk.specs.declared.Walked.the-variants.{Accepted, TooLong, BadRows, Damaged, NoRoom}
-use Rattle.walk.specs.Walk.{Lent, moveFrom, onMove, reported, runFrom, runOf, reportsFrom, reportsOf, answerOf, walkOf, numberOf, valueOf}
+use Rattle.walk.specs.Walk.{Lent, moveFrom, onMove, reported, runFrom, runOf, reportsFrom, answerOf, walkOf, numberOf, valueOf}
 use Rattle.walk.proofs.Laws.{Within, move-within, long-enough, rows-lent, walked}
 use Rattle.tally.specs.declared.Pass.{Pass}
 use Rattle.tally.specs.declared.Pass.the-variants.{Through, Ends}
 use Rattle.tally.specs.Tally.{afterMove, passFrom, rulesFrom, framePass, frameRules, moveBy}
-use Rattle.tally.specs.Totals.{rulesIn}
+use Rattle.tally.specs.Totals.{among, rulesIn, reportsIn}
+use Rattle.tally.proofs.Among.{among-append, among-members}
 
 rules-pairs : (e : ℕ) (ks rs : List ℕ) → rulesIn (pairs e ks ++ rs) ≡ ks ++ rulesIn rs
 unfolding rulesIn pairs
@@ -70,17 +73,18 @@ module _ (b : Five) (n : ℕ) (lends : n ≤ lent b) where
       go (Reached to f) w ih = let q : base + at + 1 ≡ base + (at + 1) = omega arith in rw q (ih to (falls + f) (made + length (reported (b .out) to)) w)
       go Lost w ih = refl
 
-  rules-are : (frame : List ℕ) (at row : ℕ) → row < n → rulesFrom (moveBy b n) (rulesAt (b .out)) row frame ≡ rulesIn (reporting at row frame)
-  unfolding rulesFrom reportsFrom rulesIn
-  rules-are [] at row l = refl
-  rules-are (c ∷ frame) at row l =
-      rw (move-is row c l) (go (moving row c) (move-within (b .goto) (b .fall) n row c 0) (λ to h. rules-are frame (at + 1) to h))
+  rules-are : (k : ℕ) → k < mostRules → (frame : List ℕ) (at row : ℕ) → row < n
+      → among k (rulesIn (reporting at row frame)) ≡ has (rulesFrom (moveBy b n) (rulesAt (b .out)) row frame) k
+  unfolding rulesFrom reportsFrom rulesIn among
+  rules-are k small [] at row l = sym (has-empty k)
+  rules-are k small (c ∷ frame) at row l =
+      rw (move-is row c l) (go (moving row c) (move-within (b .goto) (b .fall) n row c 0) (λ to h. rules-are k small frame (at + 1) to h))
     where
-      go : (m : Moved) → Within n m → ((to : ℕ) → to < n → rulesFrom (moveBy b n) (rulesAt (b .out)) to frame ≡ rulesIn (reporting (at + 1) to frame))
-          → afterMove m (λ to. members mostRules (rulesAt (b .out) to) ++ rulesFrom (moveBy b n) (rulesAt (b .out)) to frame) []
-          ≡ rulesIn (onMove m (λ to more. pairs (at + 1) (reported (b .out) to) ++ reporting (at + 1) to frame) [])
-      go (Reached to f) w ih = rw (ih to w, rules-pairs, reported-is (b .out) to)
-      go Lost w ih = refl
+      go : (m : Moved) → Within n m → ((to : ℕ) → to < n → among k (rulesIn (reporting (at + 1) to frame)) ≡ has (rulesFrom (moveBy b n) (rulesAt (b .out)) to frame) k)
+          → among k (rulesIn (onMove m (λ to more. pairs (at + 1) (reported (b .out) to) ++ reporting (at + 1) to frame) []))
+          ≡ has (afterMove m (λ to. bitOr (rulesAt (b .out) to) (rulesFrom (moveBy b n) (rulesAt (b .out)) to frame)) 0) k
+      go (Reached to f) w ih = rw (rules-pairs, among-append, reported-is (b .out) to, among-members k mostRules (rulesAt (b .out) to) small, ih to w, has-or)
+      go Lost w ih = sym (has-empty k)
 
   -- ---- the walk's answer, with no room
 
@@ -129,6 +133,6 @@ module _ (b : Five) (n : ℕ) (lends : n ≤ lent b) where
     pub frame-kept : (at : ℕ) → length frame ≤ mostBytes → numberOf (walkOf b n frame 0) ≢ 13 → framePass (moveBy b n) at frame ≡ Through
     frame-kept at short ne = as-walked at short ∙ kept-is (walkOf b n frame 0) at ne
 
-    pub frame-reports : frameRules (moveBy b n) (rulesAt (b .out)) frame ≡ rulesIn (reportsOf (b .goto) (b .fall) (b .out) n frame)
+    pub frame-reports : (k : ℕ) → k < mostRules → reportsIn b n k frame ≡ has (frameRules (moveBy b n) (rulesAt (b .out)) frame) k
     unfolding frameRules
-    frame-reports = rules-are frame 0 0 (omega arith)
+    frame-reports k small = rules-are k small frame 0 0 (omega arith)

@@ -7,11 +7,11 @@ use Rattle.tally.specs.declared.Pass.{Pass}
 use Rattle.tally.specs.declared.Pass.the-variants.{Through, Ends}
 use Rattle.tally.specs.Lines.{mostCount}
 
--- room in the sums for so many reports
-pub record Room (reports : ℕ) (sums : List ℕ) : Type 0 where
-  pub fits : (k : ℕ) → getD sums k 0 + mostCount * reports < 2 ^ 64
+-- room in each of the sums for so many counts
+pub record Room (counts : ℕ) (sums : List ℕ) : Type 0 where
+  pub fits : (k : ℕ) → getD sums k 0 + mostCount * counts < 2 ^ 64
 
--- A pass that gets through leaves these sums.
-abbrev pub After : Pass → List ℕ → List ℕ → Type 0
-After Through sums told = sums ≡ told
-After (Ends at) sums told = Unit {0}
+-- A pass that gets through leaves this.
+abbrev pub After : {A : Type 0} → Pass → A → A → Type 0
+After Through left told = left ≡ told
+After (Ends at) left told = Unit {0}

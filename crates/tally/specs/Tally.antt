@@ -1,8 +1,9 @@
 -- The tally of a folded profile, as functions on lists: what the walk of each frame reports, what is added, and the answer. What lies behind one
 -- byte's move and a row's rules is not looked at: `move` is any function of a row and a byte, `rules` any function of a row. Assumes nothing.
 use mathlib.Core.Bool.{cond}
-use mathlib.Core.List.{List, [], _∷_, _++_}
+use mathlib.Core.List.{List, [], _∷_}
 use Prim.Native.Nat.{ℕ, _+_}
+use lib.Bits.{bitOr}
 use lib.Dec.{ltb}
 use lib.ListN.{length, getD, set, take, replicate}
 use Rattle.sets.specs.Sets.{members}
@@ -53,25 +54,25 @@ module _ (move : ℕ → ℕ → Moved) where
 -- ---- what they report
 
 module _ (move : ℕ → ℕ → Moved) (rules : ℕ → ℕ) where
-  -- The rules that what is left of a frame reports, in order, each as often as it is reported.
-  unfoldable pub rulesFrom : ℕ → List ℕ → List ℕ
-  rulesFrom row [] = []
-  rulesFrom row (c ∷ frame) = afterMove (move row c) (λ to. members mostRules (rules to) ++ rulesFrom to frame) []
+  -- The set of the rules that what is left of a frame reports.
+  unfoldable pub rulesFrom : ℕ → List ℕ → ℕ
+  rulesFrom row [] = 0
+  rulesFrom row (c ∷ frame) = afterMove (move row c) (λ to. bitOr (rules to) (rulesFrom to frame)) 0
 
-  unfoldable pub frameRules : List ℕ → List ℕ
+  unfoldable pub frameRules : List ℕ → ℕ
   frameRules frame = rulesFrom 0 frame
 
-  unfoldable pub rulesOver : List (List ℕ) → List ℕ
-  rulesOver [] = []
-  rulesOver (f ∷ fs) = frameRules f ++ rulesOver fs
+  unfoldable pub rulesOver : List (List ℕ) → ℕ
+  rulesOver [] = 0
+  rulesOver (f ∷ fs) = bitOr (frameRules f) (rulesOver fs)
 
-  -- The rules that a stack's frames report.
-  unfoldable pub stackRules : List ℕ → List ℕ
+  -- The set of the rules that a stack's frames report.
+  unfoldable pub stackRules : List ℕ → ℕ
   stackRules stack = rulesOver (framesOf stack)
 
-  -- The sums after a line: its count is added for each report.
+  -- The sums after a line: its count is added once for each rule of that set.
   unfoldable pub lineSums : List ℕ → List ℕ → List ℕ
-  lineSums line sums = onLine (lineOf line) (λ stack count. addAll count (stackRules (take stack line)) sums) sums
+  lineSums line sums = onLine (lineOf line) (λ stack count. addAll count (members mostRules (stackRules (take stack line))) sums) sums
 
   unfoldable pub sumsOver : List (List ℕ) → List ℕ → List ℕ
   sumsOver [] sums = sums

@@ -1,9 +1,9 @@
 -- What a tally sums up, in words of the rules and the profile alone. A text that is read is kept latest byte first. Assumes nothing.
-use mathlib.Core.Bool.{cond}
+use mathlib.Core.Bool.{Bool, true, false, cond, _||_}
 use mathlib.Core.List.{List, [], _∷_}
-use mathlib.Core.Logic.{_⊎_, _≢_}
+use mathlib.Core.Logic.{_⊎_, _↔_, _≢_}
 use mathlib.Core.Path.{_≡_}
-use Prim.Native.Nat.{ℕ, _+_, _*_, _^_, _≤_, _<_}
+use Prim.Native.Nat.{ℕ, _+_, _^_, _≤_, _<_}
 use lib.Dec.{eqb}
 use lib.ListN.{length, getD, take, drop}
 use Rattle.rows.specs.Rows.{ByteText}
@@ -20,7 +20,7 @@ use Rattle.build.specs.Promise.{numberOf as numberBuilt, valueOf as valueBuilt,
 use Rattle.build.specs.declared.Built.{Built}
 use Rattle.walk.specs.declared.Walked.{Walked}
 use Rattle.walk.specs.Walk.{reportsOf, walkOf, numberOf as numberOfWalk, valueOf as valueOfWalk}
-use Rattle.walk.specs.Demands.{Occurs, Lists}
+use Rattle.walk.specs.Demands.{Occurs}
 use Rattle.tally.specs.declared.Line.the-variants.{Broken}
 use Rattle.tally.specs.declared.Tallied.{Tallied}
 use Rattle.tally.specs.Lines.{linesOf, framesOf, lineOf, onLine}
@@ -70,6 +70,10 @@ pub record Ready (w : Call) : Type 0 where
 abbrev pub framesIn : List ℕ → List (List ℕ)
 framesIn line = onLine (lineOf line) (λ stack count. framesOf (take stack line)) []
 
+-- a line's count; one that breaks the rules has none to count
+abbrev pub countIn : List ℕ → ℕ
+countIn line = onLine (lineOf line) (λ stack count. count) 0
+
 -- frame j of line i
 abbrev pub frameAt : List ℕ → ℕ → ℕ → List ℕ
 frameAt profile i j = getD (framesIn (getD (linesOf profile) i [])) j []
@@ -93,10 +97,10 @@ NoneLost w = (i : ℕ) → i < length (linesOf (w .profile)) → (j : ℕ) → j
 
 -- ---- sums
 
--- how often k is in a list
-unfoldable pub among : ℕ → List ℕ → ℕ
-among k [] = 0
-among k (j ∷ js) = cond (eqb j k) 1 0 + among k js
+-- whether k is in a list
+unfoldable pub among : ℕ → List ℕ → Bool
+among k [] = false
+among k (j ∷ js) = eqb j k || among k js
 
 -- the rules of reports, of two numbers each: the end and the rule
 unfoldable pub rulesIn : List ℕ → List ℕ
@@ -104,33 +108,39 @@ rulesIn (e ∷ k ∷ reports) = k ∷ rulesIn reports
 rulesIn (e ∷ []) = []
 rulesIn [] = []
 
--- how often the walk over a frame reports rule k
-abbrev pub reportsIn : Five → ℕ → ℕ → List ℕ → ℕ
+-- whether the walk over a frame reports rule k
+abbrev pub reportsIn : Five → ℕ → ℕ → List ℕ → Bool
 reportsIn b n k frame = among k (rulesIn (reportsOf (b .goto) (b .fall) (b .out) n frame))
 
--- for any number that a frame has
-module _ (often : List ℕ → ℕ) where
-  -- the total of frames
-  unfoldable pub timesIn : List (List ℕ) → ℕ
-  timesIn [] = 0
-  timesIn (f ∷ fs) = often f + timesIn fs
+-- for any test of a frame
+module _ (test : List ℕ → Bool) where
+  -- what frames make of a count: the count, once, if one of them passes the test, and otherwise nothing
+  unfoldable pub once : ℕ → List (List ℕ) → ℕ
+  once count [] = 0
+  once count (f ∷ fs) = cond (test f) count (once count fs)
 
-  -- a line's part: its count for each time
-  unfoldable pub partOf : List ℕ → ℕ
-  partOf line = onLine (lineOf line) (λ stack count. count * timesIn (framesOf (take stack line))) 0
-
+  -- what lines make of their counts, added up
   unfoldable pub partsOf : List (List ℕ) → ℕ
   partsOf [] = 0
-  partsOf (l ∷ ls) = partOf l + partsOf ls
+  partsOf (l ∷ ls) = once (countIn l) (framesIn l) + partsOf ls
 
-  -- The total over a profile's lines and their frames of the line's count times the frame's number.
+  -- The total of the counts of the lines with a frame that passes the test.
   abbrev pub total : List ℕ → ℕ
   total profile = partsOf (linesOf profile)
 
+-- the counts of lines, added up
+unfoldable pub countsOf : List (List ℕ) → ℕ
+countsOf [] = 0
+countsOf (l ∷ ls) = countIn l + countsOf ls
+
+-- The total of the counts of a profile's lines.
+abbrev pub counts : List ℕ → ℕ
+counts profile = countsOf (linesOf profile)
+
 -- ---- over any tables
 
--- It is refused with 11, 12, 16, 15 and 13 in that order, exactly where the paper says; accepted, each sum is the total of the counts times the reports;
--- no refusal changes the sums, and no place past the sums is written.
+-- It is refused with 11, 12, 16, 15 and 13 in that order, exactly where the paper says; accepted, sum k is the total of the counts of the lines with a
+-- frame whose walk reports rule k; no refusal changes the sums, and no place past the sums is written.
 pub record Refusals (w : Call) : Type 0 where
   pub too-long : mostBytes < length (w .profile) → Answers w 11 mostBytes
   pub bad-rows : length (w .profile) ≤ mostBytes → (w .n ≡ 0) ⊎ (lent (w .tables) < w .n) → Answers w 12 (w .n)
@@ -147,30 +157,25 @@ pub record Refusals (w : Call) : Type 0 where
 abbrev pub Refuses : Type 0
 Refuses = (w : Call) → Refusals w
 
--- No sum passes 64 bits, whichever the tables: a profile has at most `mostBytes` bytes, of which each is reported for at most `mostRules` rules.
-abbrev pub SumsFit : Type 0
-SumsFit = (w : Call) → length (w .profile) ≤ mostBytes → (k : ℕ) → getD (sumsOf (moveBy (w .tables) (w .n)) (rulesAt (w .tables .out)) (w .profile)) k 0 < 2 ^ 64
+-- No sum exceeds the total of the lines' counts, whichever the tables.
+abbrev pub SumsWithin : Type 0
+SumsWithin = (w : Call) → Answers w 0 0 → (k : ℕ) → k < mostRules → getD (after w) k 0 ≤ counts (w .profile)
 
--- ---- how often a rule occurs
+-- That total passes 64 bits in no profile that is not too long.
+abbrev pub CountsFit : Type 0
+CountsFit = (profile : List ℕ) → length profile ≤ mostBytes → counts profile < 2 ^ 64
 
--- Rule k has just m occurrences in the text: those of demand 2, listed by their ends.
-pub record Number (r : Rules) (text : List ℕ) (k m : ℕ) : Type 0 where
-  pub list : List ℕ
-  pub lists : Lists (λ e j. (j ≡ k) × Occurs r text e j) list m
-
--- No two such numbers differ.
-abbrev pub OneNumber : Type 0
-OneNumber = (r : Rules) (text : List ℕ) (k m n : ℕ) → Number r text k m → Number r text k n → m ≡ n
+-- ---- where a rule occurs
 
 module _ (r : Rules) (k : ℕ) where
-  -- how often rule k ends in a text, after what was read before
-  unfoldable pub timesFrom : List ℕ → List ℕ → ℕ
-  timesFrom before [] = 0
-  timesFrom before (c ∷ text) = cond (has (out r (c ∷ before)) k) 1 0 + timesFrom (c ∷ before) text
+  -- whether rule k ends in a text, after what was read before
+  unfoldable pub endsFrom : List ℕ → List ℕ → Bool
+  endsFrom before [] = false
+  endsFrom before (c ∷ text) = has (out r (c ∷ before)) k || endsFrom (c ∷ before) text
 
-  -- how often it occurs in a text
-  abbrev pub times : List ℕ → ℕ
-  times text = timesFrom [] text
+  -- whether it occurs in a text
+  abbrev pub occursIn : List ℕ → Bool
+  occursIn text = endsFrom [] text
 
 -- ---- over the tables of rules
 
@@ -185,10 +190,10 @@ pub record Summed (r : Rules) (w : Call) : Type 0 where
   pub undamaged : numberOf (answer w) ≢ 13
   -- accepted, where the lines are sound and what comes before them is as it must be
   pub accepts : length (w .profile) ≤ mostBytes → w .n ≤ lent (w .tables) → mostRules ≤ length (w .sums) → AllSound (linesOf (w .profile)) → Answers w 0 0
-  -- then sum k is the total over lines and frames of the line's count times the occurrences of rule k in the frame
-  pub sums : Answers w 0 0 → (k : ℕ) → k < mostRules → getD (after w) k 0 ≡ total (times r k) (w .profile)
-  -- where `times` is the number of demand 2's occurrences
-  pub occurrences : (k : ℕ) (text : List ℕ) → Number r text k (times r k text)
+  -- then sum k is the total of the counts of the lines with a frame in which rule k occurs
+  pub sums : Answers w 0 0 → (k : ℕ) → k < mostRules → getD (after w) k 0 ≡ total (occursIn r k) (w .profile)
+  -- as demand 2 has it: at some end of that frame
+  pub occurrences : (k : ℕ) (text : List ℕ) → (occursIn r k text ≡ true) ↔ ((e : ℕ) × Occurs r text e k)
 
 abbrev pub Sums : Type 0
 Sums = (r : Rules) (w : Call) → Over r w → Summed r w

@@ -4,6 +4,7 @@ use book::Book;
 use sets::WORDS;
 ghost use mathlib.Core.Path.{_≡_};
 ghost use Prim.Native.Nat.{_+_, _-_, _*_, _≤_, _<_};
+ghost use lib.Bits.{bitOr};
 ghost use lib.ListN.{length, drop};
 ghost use Rattle.sets.specs.Sets.{members, setOf, plusEach};
 ghost use Rattle.sets.specs.Table.{rowWords, rulesAt};
@@ -220,7 +221,7 @@ fn add(set: &[u64], count: u64, sums: &mut [u64; Book::RULES])
     }
 }
 
-// Walks a frame that starts at `base`, and adds the count for each report.
+// Walks a frame that starts at `base`; the rules that it reports join those seen.
 fn walk_frame(
     goto: &[u16],
     fall: &[u16],
@@ -228,12 +229,11 @@ fn walk_frame(
     n: usize,
     frame: &[u8],
     base: usize,
-    count: u64,
-    sums: &mut [u64; Book::RULES],
+    seen: &mut [u64],
 ) -> Pass
-    requires { ⌜ (base + length (now frame) ≤ mostBytes) × (count ≤ mostCount) × Room (mostRules * length (now frame)) (now sums) ⌝ }
+    requires { ⌜ (base + length (now frame) ≤ mostBytes) × (length (now seen) ≡ rowWords) ⌝ }
     ensures pass { λ r. ⌜ r ≡ framePass (moveOf (now (goto .entry)) (now (fall .entry)) (now (out .entry)) n) base (now (frame .entry)) ⌝ }
-    ensures adds { λ r. ⌜ After r (now (sums .exit)) (addAll count (frameRules (moveOf (now (goto .entry)) (now (fall .entry)) (now (out .entry)) n) (rulesAt (now (out .entry))) (now (frame .entry))) (now (sums .entry))) ⌝ }
+    ensures sees { λ r. ⌜ After r (setOf (now (seen .exit))) (bitOr (setOf (now (seen .entry))) (frameRules (moveOf (now (goto .entry)) (now (fall .entry)) (now (out .entry)) n) (rulesAt (now (out .entry))) (now (frame .entry)))) ⌝ }
 {
     let mut row = 0;
     let mut at = 0;
@@ -244,7 +244,7 @@ fn walk_frame(
                 falls: _,
             } => {
                 let rules = walk::rules(out, next);
-                add(&rules, count, sums);
+                sets::unite(seen, &rules);
                 row = next;
                 at += 1;
             }
@@ -262,17 +262,16 @@ fn walk_stack(
     n: usize,
     stack: &[u8],
     base: usize,
-    count: u64,
-    sums: &mut [u64; Book::RULES],
+    seen: &mut [u64],
 ) -> Pass
-    requires { ⌜ (base + length (now stack) ≤ mostBytes) × (count ≤ mostCount) × Room (mostRules * length (now stack)) (now sums) ⌝ }
+    requires { ⌜ (base + length (now stack) ≤ mostBytes) × (length (now seen) ≡ rowWords) ⌝ }
     ensures pass { λ r. ⌜ r ≡ stackPass (moveOf (now (goto .entry)) (now (fall .entry)) (now (out .entry)) n) base (now (stack .entry)) ⌝ }
-    ensures adds { λ r. ⌜ After r (now (sums .exit)) (addAll count (stackRules (moveOf (now (goto .entry)) (now (fall .entry)) (now (out .entry)) n) (rulesAt (now (out .entry))) (now (stack .entry))) (now (sums .entry))) ⌝ }
+    ensures sees { λ r. ⌜ After r (setOf (now (seen .exit))) (bitOr (setOf (now (seen .entry))) (stackRules (moveOf (now (goto .entry)) (now (fall .entry)) (now (out .entry)) n) (rulesAt (now (out .entry))) (now (stack .entry)))) ⌝ }
 {
     let mut at = 0;
     while at < stack.len() {
         let end = find(stack, at, SEMICOLON);
-        match walk_frame(goto, fall, out, n, &stack[at..end], base + at, count, sums) {
+        match walk_frame(goto, fall, out, n, &stack[at..end], base + at, seen) {
             Pass::Through => {
                 at = end + 1;
             }
@@ -282,7 +281,7 @@ fn walk_stack(
     Pass::Through
 }
 
-// Walks a line that starts at `base`; one that breaks the rules adds nothing.
+// Walks a line that starts at `base`, and adds its count once for each rule that a frame reports; a line that breaks the rules adds nothing.
 fn walk_line(
     goto: &[u16],
     fall: &[u16],
@@ -292,21 +291,21 @@ fn walk_line(
     base: usize,
     sums: &mut [u64; Book::RULES],
 ) -> Pass
-    requires { ⌜ (base + length (now line) ≤ mostBytes) × Room (mostRules * length (now line)) (now sums) ⌝ }
+    requires { ⌜ (base + length (now line) ≤ mostBytes) × Room mostRules (now sums) ⌝ }
     ensures pass { λ r. ⌜ r ≡ linePass (moveOf (now (goto .entry)) (now (fall .entry)) (now (out .entry)) n) base (now (line .entry)) ⌝ }
     ensures adds { λ r. ⌜ After r (now (sums .exit)) (lineSums (moveOf (now (goto .entry)) (now (fall .entry)) (now (out .entry)) n) (rulesAt (now (out .entry))) (now (line .entry)) (now (sums .entry))) ⌝ }
 {
     match read_line(line) {
-        Line::Sound { stack, count } => walk_stack(
-            goto,
-            fall,
-            out,
-            n,
-            &line[..stack],
-            base,
-            count,
-            sums,
-        ),
+        Line::Sound { stack, count } => {
+            let mut seen = sets::none();
+            match walk_stack(goto, fall, out, n, &line[..stack], base, &mut seen) {
+                Pass::Through => {
+                    add(&seen, count, sums);
+                    Pass::Through
+                }
+                Pass::Ends { at } => Pass::Ends { at },
+            }
+        }
         Line::Broken => Pass::Through,
     }
 }

@@ -75,8 +75,7 @@ loop-again c =
     let a = k .before .before .before .before .before .before .before .before .before .before .args in
     let l = k .before .before .before .before .before .loop in
     let f = k .before .before .before .find in
-    let told = rw (c .enum-told .given .1) at (k .walk-line .ensures .1) in
-    let p = piece-length (a .profile .now) (l .at) (f .result) (omega arith) (f .ensures .1) in (
+    let told = rw (c .enum-told .given .1) at (k .walk-line .ensures .1) in (
       omega arith,
       rw told (line-room _ _ _ _ (piece (a .profile .now) (l .at) (f .result)) (l .sums) (omega arith) (l .inv .1)),
       turn k _ (c .enum-told .given .1),

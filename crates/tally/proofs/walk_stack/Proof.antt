@@ -1,41 +1,41 @@
--- `tally::walk_stack` meets its contract: the pass from here on is the whole pass, and to add for the frames left makes of the sums what to add
--- for all makes of the sums at entry. Assumes nothing.
-use Prim.Native.Nat.{_+_, _-_, _*_, _≤_}
-use mathlib.Core.Path.{_≡_, refl, sym, _∙_}
+-- `tally::walk_stack` meets its contract: the pass from here on is the whole pass, and the rules seen so far with those of the frames left are the
+-- rules seen at entry with those of all frames. Assumes nothing.
+use Prim.Native.Nat.{_+_, _-_, _≤_}
+use mathlib.Core.Path.{_≡_, refl, sym, ap, _∙_}
 use native.Mathlib.Nat.{add-zero}
 use native.Mathlib.Omega.{arith}
 use borrow.Author.Needs.{needs}
+use lib.Bits.{bitOr, or-zero-r}
 use lib.ListN.{length, drop}
-use Rattle.sets.specs.Table.{rulesAt}
-use Rattle.book.specs.Limits.{mostRules}
+use Rattle.sets.specs.Sets.{setOf}
+use Rattle.sets.specs.Table.{rowWords, rulesAt}
+use Rattle.sets.proofs.Laws.{union-assoc}
 use Rattle.walk.specs.Walk.{moveOf}
 use Rattle.tally.specs.declared.Pass.{Pass}
 use Rattle.tally.specs.Lines.{framesOf, onPass, passOver}
-use Rattle.tally.specs.Tally.{addAll, framePass, frameRules, rulesOver, stackPass, stackRules}
-use Rattle.tally.specs.Passes.{Room}
-use Rattle.tally.proofs.Lines.{piece, piece-length}
-use Rattle.tally.proofs.Adding.{add-append, room-less, room-add}
-use Rattle.tally.proofs.Walks.{frame-le, stack-rules-step, stack-pass, stack-end, stack-rules-end}
+use Rattle.tally.specs.Tally.{framePass, rulesOver, stackPass, stackRules}
+use Rattle.tally.proofs.Lines.{piece-length}
+use Rattle.tally.proofs.Walks.{stack-rules-step, stack-pass, stack-end, stack-rules-end}
 use Rattle.tally.proofs.walk_stack.Statement.{statement}
 use Rattle.tally.proofs.walk_stack.Tie as tie
 
 abbrev Inv-loop : tie.InvT-loop
-Inv-loop goto fall out n stack base count sums₀ at₀ sums at =
-    (at ≤ length stack + 1) × Room (mostRules * (length stack - at)) sums
+Inv-loop goto fall out n stack base seen₀ at₀ seen at =
+    (at ≤ length stack + 1) × (length seen ≡ rowWords)
     × (passOver (framePass (moveOf goto fall out n)) (base + at) (framesOf (drop at stack)) ≡ stackPass (moveOf goto fall out n) base stack)
-    × (addAll count (rulesOver (moveOf goto fall out n) (rulesAt out) (framesOf (drop at stack))) sums ≡ addAll count (stackRules (moveOf goto fall out n) (rulesAt out) stack) sums₀)
+    × (bitOr (setOf seen) (rulesOver (moveOf goto fall out n) (rulesAt out) (framesOf (drop at stack))) ≡ bitOr (setOf seen₀) (stackRules (moveOf goto fall out n) (rulesAt out) stack))
 
 abbrev μ-loop : tie.MeasureT-loop
-μ-loop goto fall out n stack base count sums₀ at₀ sums at = length stack - at
+μ-loop goto fall out n stack base seen₀ at₀ seen at = length stack - at
 
 -- a frame's part in the pass, where the frame's pass is q
 turn : (k : tie.After-walk-frame Inv-loop μ-loop) (q : Pass) → k .walk-frame .result ≡ q →
-    let a = k .before .before .before .before .before .before .before .before .before .before .args in
+    let a = k .before .before .before .before .before .before .before .before .before .before .before .args in
     let end = k .before .before .before .find .result in
     onPass q (passOver (framePass (moveOf (a .goto .now) (a .fall .now) (a .out .now) (a .n))) (a .base + (end + 1)) (framesOf (drop (end + 1) (a .stack .now))))
     ≡ stackPass (moveOf (a .goto .now) (a .fall .now) (a .out .now) (a .n)) (a .base) (a .stack .now)
 turn k q e =
-    let a = k .before .before .before .before .before .before .before .before .before .before .args in
+    let a = k .before .before .before .before .before .before .before .before .before .before .before .args in
     let l = k .before .before .before .before .before .loop in
     let f = k .before .before .before .find .ensures in
     rw (← k .walk-frame .ensures .0, e) at
@@ -43,7 +43,7 @@ turn k q e =
 
 loop-holds : tie.Need-loop-holds Inv-loop μ-loop
 unfolding stackPass stackRules
-loop-holds c = let p = c .before .before .before .before .pre in (omega arith, room-less (omega arith) (p .2), rw add-zero, refl)
+loop-holds c = let p = c .before .before .before .before .before .pre in (omega arith, p .1, rw add-zero, refl)
 
 find-requires : tie.Need-find-requires Inv-loop μ-loop
 find-requires c κs = search needs
@@ -62,10 +62,10 @@ add-walk-frame c = search needs
 
 walk-frame-requires : tie.Need-walk-frame-requires Inv-loop μ-loop
 walk-frame-requires c κs =
-    let s = c .before .before .before .before .before .before .before .before .before in
+    let s = c .before .before .before .before .before .before .before .before .before .before in
     let l = c .before .before .before .before .loop in
     let p = piece-length (s .args .stack .now) (l .at) (c .before .before .find .result) (omega arith) (omega arith) in
-    (omega arith, omega arith, room-less (omega arith) (l .inv .1))
+    (omega arith, l .inv .1)
 
 enum-told : tie.Need-enum-told Inv-loop μ-loop
 enum-told c = search needs
@@ -78,33 +78,36 @@ loop-less c = search needs
 
 loop-again : tie.Need-loop-again Inv-loop μ-loop
 loop-again c =
-    let k = c .before .before in
-    let s = k .before .before .before .before .before .before .before .before .before .before in
-    let a = s .args in
+    let k = c .before .before .before .before in
+    let a = k .before .before .before .before .before .before .before .before .before .before .before .args in
     let l = k .before .before .before .before .before .loop in
     let f = k .before .before .before .find in
     let t = k .before .before .before .before .loop-test .taken in
-    let part = piece (a .stack .now) (l .at) (f .result) in
     let told = rw (c .enum-told .given .1) at (k .walk-frame .ensures .1) in
-    let p = piece-length (a .stack .now) (l .at) (f .result) (omega arith) (f .ensures .1) in (
+    let whole = stack-rules-step (moveOf (a .goto .now) (a .fall .now) (a .out .now) (a .n)) (rulesAt (a .out .now)) (a .stack .now) (l .at) _ t (f .ensures .0) (f .ensures .1) in (
       omega arith,
-      rw told (room-add (a .count) _ _ (frameRules (moveOf (a .goto .now) (a .fall .now) (a .out .now) (a .n)) (rulesAt (a .out .now)) part) (l .sums) (s .pre .1) (omega (arith, frame-le (moveOf (a .goto .now) (a .fall .now) (a .out .now) (a .n)) (rulesAt (a .out .now)) part)) (l .inv .1)),
+      search needs,
       turn k _ (c .enum-told .given .1),
-      rw told (rw (stack-rules-step _ _ _ _ _ t (f .ensures .0) (f .ensures .1), add-append) at (l .inv .3)),
+      rw (told, union-assoc) (ap (bitOr (setOf (l .seen))) (sym whole) ∙ l .inv .3),
     )
 
 enum-known-lost : tie.Need-enum-known-lost Inv-loop μ-loop
 enum-known-lost c = search needs
 
+same-length : tie.Need-same-length Inv-loop μ-loop
+same-length c = search needs
+
 returns : tie.Need-returns Inv-loop μ-loop
-returns c = (turn (c .before .before .before) _ (c .before .lost .given .1), tt)
+returns c = (turn (c .before .before .before .before .before) _ (c .before .lost .given .1), tt)
+
+same-length-2 : tie.Need-same-length-2 Inv-loop μ-loop
+same-length-2 c = search needs
 
 returns-2 : tie.Need-returns-2 Inv-loop μ-loop
-unfolding addAll
 returns-2 c =
     let l = c .before .loop in
     let t = c .loop-test .left in
-    (sym (stack-end _ _ _ _ t) ∙ l .inv .2, rw (stack-rules-end _ _ _ _ t) at (l .inv .3))
+    (sym (stack-end _ _ _ _ t) ∙ l .inv .2, rw (stack-rules-end _ _ _ _ t, or-zero-r) at (l .inv .3))
 
 pub walk-stack-spec : {M : Type 1} → statement M
 walk-stack-spec =
@@ -124,5 +127,7 @@ walk-stack-spec =
     loop-less
     loop-again
     enum-known-lost
+    same-length
     returns
+    same-length-2
     returns-2)

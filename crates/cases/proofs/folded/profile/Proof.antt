@@ -22,6 +22,12 @@ loop-holds c = search needs
 line-requires : tie.Need-line-requires Inv-loop μ-loop
 line-requires c κs = search needs
 
+draw-requires-3 : tie.Need-draw-requires-3 Inv-loop μ-loop
+draw-requires-3 c κs = search needs
+
+again-requires : tie.Need-again-requires Inv-loop μ-loop
+again-requires c κs = search needs
+
 add-i : tie.Need-add-i Inv-loop μ-loop
 add-i c = search needs
 
@@ -31,8 +37,8 @@ loop-less c = search needs
 loop-again : tie.Need-loop-again Inv-loop μ-loop
 loop-again c = search needs
 
-draw-requires-3 : tie.Need-draw-requires-3 Inv-loop μ-loop
-draw-requires-3 c κs = search needs
+draw-requires-4 : tie.Need-draw-requires-4 Inv-loop μ-loop
+draw-requires-4 c κs = search needs
 
 above-requires : tie.Need-above-requires Inv-loop μ-loop
 above-requires c κs = search needs
@@ -50,9 +56,11 @@ profile-spec =
     draw-requires-2
     loop-holds
     line-requires
+    draw-requires-3
+    again-requires
     add-i
     loop-less
     loop-again
-    draw-requires-3
+    draw-requires-4
     above-requires
     returns)

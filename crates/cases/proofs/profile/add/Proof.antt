@@ -5,10 +5,10 @@ use Rattle.cases.proofs.profile.add.Statement.{statement}
 use Rattle.cases.proofs.profile.add.Tie as tie
 
 abbrev Inv-loop : tie.InvT-loop
-Inv-loop sums₀ pairs reports count i₀ sums i = 0 ≤ i
+Inv-loop sums₀ last₀ pairs reports count line out₀ i₀ sums last out i = 0 ≤ i
 
 abbrev μ-loop : tie.MeasureT-loop
-μ-loop sums₀ pairs reports count i₀ sums i = reports - i
+μ-loop sums₀ last₀ pairs reports count line out₀ i₀ sums last out i = reports - i
 
 loop-holds : tie.Need-loop-holds Inv-loop μ-loop
 loop-holds c = search needs
@@ -28,11 +28,20 @@ cast-k c = search needs
 at64-requires : tie.Need-at64-requires Inv-loop μ-loop
 at64-requires c κs = search needs
 
-wrapping-add-u64-requires : tie.Need-wrapping-add-u64-requires Inv-loop μ-loop
-wrapping-add-u64-requires c κs = search needs
+plus-requires-3 : tie.Need-plus-requires-3 Inv-loop μ-loop
+plus-requires-3 c κs = search needs
 
 put64-requires : tie.Need-put64-requires Inv-loop μ-loop
 put64-requires c κs = search needs
+
+at64-requires-2 : tie.Need-at64-requires-2 Inv-loop μ-loop
+at64-requires-2 c κs = search needs
+
+wrapping-add-u64-requires : tie.Need-wrapping-add-u64-requires Inv-loop μ-loop
+wrapping-add-u64-requires c κs = search needs
+
+put64-requires-2 : tie.Need-put64-requires-2 Inv-loop μ-loop
+put64-requires-2 c κs = search needs
 
 add-i : tie.Need-add-i Inv-loop μ-loop
 add-i c = search needs
@@ -58,8 +67,11 @@ add-spec =
     at32-requires
     cast-k
     at64-requires
-    wrapping-add-u64-requires
+    plus-requires-3
     put64-requires
+    at64-requires-2
+    wrapping-add-u64-requires
+    put64-requires-2
     add-i
     loop-less
     loop-again

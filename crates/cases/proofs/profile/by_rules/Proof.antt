@@ -5,10 +5,10 @@ use Rattle.cases.proofs.profile.by_rules.Statement.{statement}
 use Rattle.cases.proofs.profile.by_rules.Tie as tie
 
 abbrev Inv-loop : tie.InvT-loop
-Inv-loop fit profile frames number sums₀ pairs₀ i₀ sums pairs i = 0 ≤ i
+Inv-loop fit profile frames number sums₀ pairs₀ last₀ out₀ i₀ sums pairs last out i = 0 ≤ i
 
 abbrev μ-loop : tie.MeasureT-loop
-μ-loop fit profile frames number sums₀ pairs₀ i₀ sums pairs i = number - i
+μ-loop fit profile frames number sums₀ pairs₀ last₀ out₀ i₀ sums pairs last out i = number - i
 
 loop-holds : tie.Need-loop-holds Inv-loop μ-loop
 loop-holds c = search needs
@@ -19,14 +19,20 @@ part-requires c κs = search needs
 part-requires-2 : tie.Need-part-requires-2 Inv-loop μ-loop
 part-requires-2 c κs = search needs
 
-search-requires : tie.Need-search-requires Inv-loop μ-loop
-search-requires c κs = search needs
-
 part-requires-3 : tie.Need-part-requires-3 Inv-loop μ-loop
 part-requires-3 c κs = search needs
 
+part-requires-4 : tie.Need-part-requires-4 Inv-loop μ-loop
+part-requires-4 c κs = search needs
+
+search-requires : tie.Need-search-requires Inv-loop μ-loop
+search-requires c κs = search needs
+
 add-requires : tie.Need-add-requires Inv-loop μ-loop
 add-requires c κs = search needs
+
+plus-requires : tie.Need-plus-requires Inv-loop μ-loop
+plus-requires c κs = search needs
 
 add-i : tie.Need-add-i Inv-loop μ-loop
 add-i c = search needs
@@ -49,9 +55,11 @@ by-rules-spec =
     loop-holds
     part-requires
     part-requires-2
-    search-requires
     part-requires-3
+    part-requires-4
+    search-requires
     add-requires
+    plus-requires
     add-i
     loop-less
     loop-again

@@ -5,10 +5,10 @@ use Rattle.cases.proofs.profile.by_tables.Statement.{statement}
 use Rattle.cases.proofs.profile.by_tables.Tie as tie
 
 abbrev Inv-loop : tie.InvT-loop
-Inv-loop goto fall held out n profile frames number sums₀ pairs₀ i₀ sums pairs i = 0 ≤ i
+Inv-loop goto fall held out n profile frames number sums₀ pairs₀ last₀ i₀ sums pairs last i = 0 ≤ i
 
 abbrev μ-loop : tie.MeasureT-loop
-μ-loop goto fall held out n profile frames number sums₀ pairs₀ i₀ sums pairs i = number - i
+μ-loop goto fall held out n profile frames number sums₀ pairs₀ last₀ i₀ sums pairs last i = number - i
 
 loop-holds : tie.Need-loop-holds Inv-loop μ-loop
 loop-holds c = search needs

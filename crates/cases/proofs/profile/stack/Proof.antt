@@ -28,14 +28,17 @@ loop-holds c = search needs
 next-requires : tie.Need-next-requires Inv-loop μ-loop
 next-requires c κs = search needs
 
-note-requires : tie.Need-note-requires Inv-loop μ-loop
-note-requires c κs = search needs
-
 plus-requires-3 : tie.Need-plus-requires-3 Inv-loop μ-loop
 plus-requires-3 c κs = search needs
 
+note-requires : tie.Need-note-requires Inv-loop μ-loop
+note-requires c κs = search needs
+
 plus-requires-4 : tie.Need-plus-requires-4 Inv-loop μ-loop
 plus-requires-4 c κs = search needs
+
+plus-requires-5 : tie.Need-plus-requires-5 Inv-loop μ-loop
+plus-requires-5 c κs = search needs
 
 add-counter : tie.Need-add-counter Inv-loop μ-loop
 add-counter c = search needs
@@ -64,9 +67,10 @@ stack-spec =
     plus-requires-2
     loop-holds
     next-requires
-    note-requires
     plus-requires-3
+    note-requires
     plus-requires-4
+    plus-requires-5
     add-counter
     loop-less
     loop-again

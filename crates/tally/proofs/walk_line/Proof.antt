@@ -48,7 +48,7 @@ none-requires : tie.Need-none-requires
 none-requires c κs = search needs
 
 slice-aggregate-walk-stack : tie.Need-slice-aggregate-walk-stack
-slice-aggregate-walk-stack c = let k = known (c .before .before .before) .0 .0 in sym (length-take-le _ _ (omega (arith, k)))
+slice-aggregate-walk-stack c = let l = known (c .before .before .before) .0 .0 in sym (length-take-le _ _ (omega arith))
 
 slice-aggregate-walk-stack-2 : tie.Need-slice-aggregate-walk-stack-2
 slice-aggregate-walk-stack-2 c = search needs
@@ -57,9 +57,9 @@ walk-stack-requires : tie.Need-walk-stack-requires
 walk-stack-requires c κs =
     let s = c .before .before .before .before .before .before .before .before .before .before .before in
     let v = c .before .before .before .before in
-    let k = known v in
-    let p = length-take-le (v .stack .given .0 .0) (s .args .line .now) (omega (arith, k .0 .0)) in
-    (omega (arith, k .0 .0), ap length (c .before .before .none .ensures .0))
+    let l = known v .0 .0 in
+    let p = length-take-le (v .stack .given .0 .0) (s .args .line .now) (omega arith) in
+    (omega arith, ap length (c .before .before .none .ensures .0))
 
 enum-told : tie.Need-enum-told
 enum-told c = search needs

@@ -121,7 +121,7 @@ fn digit(byte: u8) -> u64
     (byte - 48) as u64
 }
 
-// Reads a count: `0`, or 1 to 10 digits without a leading zero, at most the largest.
+// Reads a count: `0`, or 1 to 10 digits without a leading zero, at most MOST_COUNT.
 fn read_count(digits: &[u8]) -> Count
     ensures { λ r. ⌜ r ≡ countOf (now (digits .entry)) ⌝ }
 {
@@ -147,10 +147,12 @@ fn read_count(digits: &[u8]) -> Count
         if 57 < byte {
             return Count::Not;
         }
-        value = 10 * value + digit(byte);
-        if MOST_COUNT < value {
+        let next = digit(byte);
+        // The limit, in this one place: 10 * value + next is made only where it is at most MOST_COUNT.
+        if (MOST_COUNT - next) / 10 < value {
             return Count::Not;
         }
+        value = 10 * value + next;
         at += 1;
     }
     Count::Is(value)

@@ -25,9 +25,9 @@ judged : (c : tie.Else2 Inv-loop μ-loop) →
     let s = c .before .before .before .args .digits .now in
     countOf s ≡ cond (eqb (getD s 0 0) 48) (cond (eqb (length s) 1) (Is 0) Not) (limited (numberFrom 0 s))
 unfolding countOf
-judged c = simp (ne-eqb _ _ (c .before .if1 .left), le-ltb _ _ (c .if2 .left))
+judged c = simp (ne-eqb _ _ (c .before .if1 .left), le-ltb 10 _ (c .if2 .left))
 
--- a digit taken in
+-- the number with the digit in it
 turn : (c : tie.After-digit Inv-loop μ-loop) →
     let l = c .before .before .before .before .before .loop in
     let s = c .before .before .before .before .before .before .before .before .before .before .before .args .digits .now in
@@ -73,19 +73,23 @@ returns-6 c =
     let l = c .before .before .before .before .loop in
     sym (ap limited (number-high _ _ (l .value) (c .before .before .before .loop-test .taken) (c .before .if5 .left) (c .if6 .taken))) ∙ l .inv .2
 
-mul-value : tie.Need-mul-value Inv-loop μ-loop
-mul-value c = search needs
-
 digit-requires : tie.Need-digit-requires Inv-loop μ-loop
 digit-requires c κs = search needs
 
-add-value : tie.Need-add-value Inv-loop μ-loop
-add-value c = search needs
+sub-if7 : tie.Need-sub-if7 Inv-loop μ-loop
+sub-if7 c = search needs
 
+-- the limit, before the digit is taken in
 returns-7 : tie.Need-returns-7 Inv-loop μ-loop
 returns-7 c =
     let s = c .before .before .before .before .before .before .before .before .before .before .before .before .args .digits .now in
-    sym (over (drop (c .before .before .before .before .before .before .loop .at + 1) s) _ (c .if7 .taken)) ∙ turn (c .before)
+    sym (over (drop (c .before .before .before .before .before .before .loop .at + 1) s) _ (omega arith)) ∙ turn (c .before)
+
+mul-value : tie.Need-mul-value Inv-loop μ-loop
+mul-value c = search needs
+
+add-value : tie.Need-add-value Inv-loop μ-loop
+add-value c = search needs
 
 add-at : tie.Need-add-at Inv-loop μ-loop
 add-at c = search needs
@@ -114,10 +118,11 @@ read-count-spec =
     shared-slice-read-byte
     returns-5
     returns-6
-    mul-value
     digit-requires
-    add-value
+    sub-if7
     returns-7
+    mul-value
+    add-value
     add-at
     loop-less
     loop-again

@@ -81,9 +81,7 @@ sub-if7 c = search needs
 
 -- the limit, before the digit is taken in
 returns-7 : tie.Need-returns-7 Inv-loop μ-loop
-returns-7 c =
-    let s = c .before .before .before .before .before .before .before .before .before .before .before .before .args .digits .now in
-    sym (over (drop (c .before .before .before .before .before .before .loop .at + 1) s) _ (omega arith)) ∙ turn (c .before)
+returns-7 c = sym (over _ _ (omega arith)) ∙ turn (c .before)
 
 mul-value : tie.Need-mul-value Inv-loop μ-loop
 mul-value c = search needs

@@ -1,9 +1,6 @@
-// What the programs for people share: reading a book and a text, each whole, and the lines that both write.
+// What the programs for people read: a book and a text, each whole; and the tables that they lend.
 
 use libc::STDIN_FILENO;
-use libc::STDOUT_FILENO;
-ghost use mathlib.Core.Path.{_≡_};
-ghost use lib.Dec.{eqb};
 ghost use lib.ListN.{length};
 ghost use Rattle.inputs.specs.Inputs.{Fits, BothFit};
 
@@ -17,7 +14,7 @@ pub const ROWS: usize = 120;
 
 pub const ENTRIES: usize = 256 * ROWS;
 
-pub const WORDS: usize = 4 * ROWS;
+pub const WORDS: usize = sets::WORDS * ROWS;
 
 // What reading an input came to: all its bytes, so many; or it cannot be read or is too long.
 enum Input {
@@ -31,16 +28,14 @@ pub enum Both {
     Refused,
 }
 
-// Reads the book and the text, and says so where one of them is refused.
+// Reads the book and the text.
 pub fn read_both(book: &mut [u8; BOOK_ROOM], text: &mut [u8; TEXT_ROOM]) -> Both
     ensures { λ r. ⌜ BothFit r (length (now (book .exit))) (length (now (text .exit))) ⌝ }
 {
     let Input::Whole(b) = read_book(book) else {
-        refuse_input();
         return Both::Refused;
     };
     let Input::Whole(t) = read_text(text) else {
-        refuse_input();
         return Both::Refused;
     };
     Both::Whole { book: b, text: t }
@@ -83,40 +78,4 @@ fn read_all(file: i32, room: &mut [u8]) -> Input
         done += more;
     }
     Input::Refused
-}
-
-// Writes a label and a number.
-pub fn put(label: &[u8], n: u64) {
-    io::write_all(STDOUT_FILENO, label);
-    io::print_decimal(STDOUT_FILENO, n);
-}
-
-// Ends a line.
-pub fn end_line() {
-    io::write_all(STDOUT_FILENO, b"\n");
-}
-
-// The line of a refusal, by the paper's number and value.
-pub fn refuse(number: usize, value: usize) {
-    put(b"refused ", number as u64);
-    put(b" ", value as u64);
-    end_line();
-}
-
-// The line of a build, by its number and value: the rows used, or a refusal. Answers whether it was accepted.
-pub fn say_built(number: usize, value: usize) -> bool
-    ensures { λ r. ⌜ r ≡ eqb number 0 ⌝ }
-{
-    if number == 0 {
-        put(b"rows ", value as u64);
-        end_line();
-    } else {
-        refuse(number, value);
-    }
-    number == 0
-}
-
-// The line of an input that cannot be read or is too long.
-fn refuse_input() {
-    io::write_all(STDOUT_FILENO, b"refused input\n");
 }

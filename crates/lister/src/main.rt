@@ -3,34 +3,68 @@
 
 use inputs::Both;
 use walk::Walked;
-ghost use Prim.Native.Nat.{_*_, _≤_};
-ghost use lib.ListN.{length};
+ghost use mathlib.Core.Path.{_≡_};
+ghost use Prim.Native.Nat.{_+_, _*_, _≤_};
+ghost use lib.ListN.{length, take};
+ghost use Rattle.build.specs.Promise.{five};
+ghost use Rattle.output.specs.Printed.{Puts};
+ghost use Rattle.lister.specs.Listing.{reportLines, shownLines, PutsSearch, listRoom, Listed};
 
-// The places of the report buffer, two a report.
-const PLACES: usize = 2 * 8192;
+// How many reports there is room for, and the places of their buffer, two a report.
+const REPORTS: usize = 8192;
+
+const PLACES: usize = 2 * REPORTS;
+
+// The room for an answer: for each report a line of two numbers of up to 10 digits, and lines of up to 64 bytes before and after these.
+const ROOM: usize = 64 + 22 * REPORTS + 64;
 
 fn main() {
     let mut book = [0u8; inputs::BOOK_ROOM];
     let mut text = [0u8; inputs::TEXT_ROOM];
     if let Both::Whole { book: b, text: t } = inputs::read_both(&mut book, &mut text) {
         list(&book[0..b], &text[0..t]);
+    } else {
+        output::write(b"refused input\n");
     }
 }
 
-// Builds the book's tables, and has the text walked over them.
+// Writes what the book and the text come to.
 fn list(book: &[u8], text: &[u8]) {
+    let mut answer = [0u8; ROOM];
+    let end = put_answer(book, text, &mut answer);
+    output::write(&answer[0..end]);
+}
+
+// Builds the book's tables, has the text walked over them, and puts the lines of both.
+fn put_answer(book: &[u8], text: &[u8], answer: &mut [u8]) -> usize
+    requires { ⌜ listRoom ≤ length (now answer) ⌝ }
+    ensures { λ r. ⌜ r ≤ length (now (answer .exit)) ⌝ }
+    ensures { λ r. ⌜ Listed (now (book .entry)) (now (text .entry)) (take r (now (answer .exit))) ⌝ }
+{
     let mut goto = [0u16; inputs::ENTRIES];
     let mut fall = [0u16; inputs::ROWS];
     let mut held = [0u8; inputs::ROWS];
     let mut live = [0u64; inputs::WORDS];
     let mut out = [0u64; inputs::WORDS];
     let built = build::build(book, &mut goto, &mut fall, &mut held, &mut live, &mut out);
-    if inputs::say_built(built.number(), built.value()) {
-        search(&goto, &fall, &held, &live, &out, built.value(), text);
+    let at = output::put_built(answer, 0, built.number(), built.value());
+    if built.number() != 0 {
+        return at;
     }
+    search(
+        &goto,
+        &fall,
+        &held,
+        &live,
+        &out,
+        built.value(),
+        text,
+        answer,
+        at,
+    )
 }
 
-// Walks the text over the tables, of so many rows.
+// Walks the text over the tables, of so many rows, and puts what that came to.
 fn search(
     goto: &[u16],
     fall: &[u16],
@@ -39,7 +73,11 @@ fn search(
     out: &[u64],
     rows: usize,
     text: &[u8],
-) {
+    answer: &mut [u8],
+    at: usize,
+) -> usize
+    ensures { λ r. ⌜ PutsSearch (five (now (goto .entry)) (now (fall .entry)) (now (held .entry)) (now (live .entry)) (now (out .entry))) rows (now (text .entry)) (now (answer .entry)) at (now (answer .exit)) r ⌝ }
+{
     let mut reports = [0u32; PLACES];
     let walked = walk::walk(goto, fall, held, live, out, rows, text, &mut reports);
     match walked {
@@ -47,34 +85,45 @@ fn search(
             reports: made,
             falls,
             held: last,
-        } => show(&reports, made, falls, last),
-        _ => inputs::refuse(walked.number(), walked.value()),
+        } => show(&reports, made, falls, last, answer, at),
+        _ => output::put_refusal(answer, at, walked.number(), walked.value()),
     }
 }
 
-// What an accepted walk answers: its reports, then the fallbacks with the held length.
-fn show(reports: &[u32], made: usize, falls: u64, held: u8)
+// Puts what an accepted walk answers: its reports, then the fallbacks with the held length.
+fn show(reports: &[u32], made: usize, falls: u64, held: u8, answer: &mut [u8], at: usize) -> usize
     requires { ⌜ 2 * made ≤ length (now reports) ⌝ }
+    ensures { λ _. ⌜ length (shownLines (take (2 * made) (now (reports .entry))) falls held) ≤ 22 * made + 64 ⌝ }
+    ensures { λ r. ⌜ Puts (shownLines (take (2 * made) (now (reports .entry))) falls held) (now (answer .entry)) at (now (answer .exit)) r ⌝ }
 {
-    show_reports(reports, made);
-    inputs::put(b"falls ", falls);
-    inputs::put(b" held ", held as u64);
-    inputs::end_line();
+    let end = show_reports(reports, made, answer, at);
+    output::put_pair(answer, end, b"falls ", falls, b" held ", held as u64)
 }
 
-// A line for each report made: the end and the rule.
-fn show_reports(reports: &[u32], made: usize)
+// Puts a line for each report made: the end and the rule.
+fn show_reports(reports: &[u32], made: usize, answer: &mut [u8], at: usize) -> usize
     requires { ⌜ 2 * made ≤ length (now reports) ⌝ }
+    ensures { λ _. ⌜ length (reportLines (take (2 * made) (now (reports .entry)))) ≤ 22 * made ⌝ }
+    ensures { λ r. ⌜ Puts (reportLines (take (2 * made) (now (reports .entry)))) (now (answer .entry)) at (now (answer .exit)) r ⌝ }
 {
+    let mut to = at;
     let mut i = 0;
     while i < made {
-        inputs::put(b"", wide(reports[2 * i]));
-        inputs::put(b" ", wide(reports[2 * i + 1]));
-        inputs::end_line();
+        to = output::put_pair(
+            answer,
+            to,
+            b"",
+            wide(reports[2 * i]),
+            b" ",
+            wide(reports[2 * i + 1]),
+        );
         i += 1;
     }
+    to
 }
 
-fn wide(x: u32) -> u64 {
+fn wide(x: u32) -> u64
+    ensures { λ r. ⌜ r ≡ x ⌝ }
+{
     x as u64
 }

@@ -3,29 +3,62 @@
 
 use book::Book;
 use inputs::Both;
+ghost use Prim.Native.Nat.{_*_, _≤_};
+ghost use lib.ListN.{length, take};
+ghost use Rattle.build.specs.Promise.{five};
+ghost use Rattle.output.specs.Printed.{Puts};
+ghost use Rattle.summer.specs.Summing.{sumLine, sumLines, PutsTotal, sumsRoom, SumsListed};
+
+// The room for an answer: for each rule a line of two numbers of up to 20 digits, and a line of up to 64 bytes before these.
+const ROOM: usize = 64 + 42 * Book::RULES;
 
 fn main() {
     let mut book = [0u8; inputs::BOOK_ROOM];
     let mut profile = [0u8; inputs::TEXT_ROOM];
     if let Both::Whole { book: b, text: p } = inputs::read_both(&mut book, &mut profile) {
         sum(&book[0..b], &profile[0..p]);
+    } else {
+        output::write(b"refused input\n");
     }
 }
 
-// Builds the book's tables, and has the profile tallied over them.
+// Writes what the book and the profile come to.
 fn sum(book: &[u8], profile: &[u8]) {
+    let mut answer = [0u8; ROOM];
+    let end = put_answer(book, profile, &mut answer);
+    output::write(&answer[0..end]);
+}
+
+// Builds the book's tables, has the profile tallied over them, and puts the lines of both.
+fn put_answer(book: &[u8], profile: &[u8], answer: &mut [u8]) -> usize
+    requires { ⌜ sumsRoom ≤ length (now answer) ⌝ }
+    ensures { λ r. ⌜ r ≤ length (now (answer .exit)) ⌝ }
+    ensures { λ r. ⌜ SumsListed (now (book .entry)) (now (profile .entry)) (take r (now (answer .exit))) ⌝ }
+{
     let mut goto = [0u16; inputs::ENTRIES];
     let mut fall = [0u16; inputs::ROWS];
     let mut held = [0u8; inputs::ROWS];
     let mut live = [0u64; inputs::WORDS];
     let mut out = [0u64; inputs::WORDS];
     let built = build::build(book, &mut goto, &mut fall, &mut held, &mut live, &mut out);
-    if inputs::say_built(built.number(), built.value()) {
-        total(&goto, &fall, &held, &live, &out, built.value(), profile);
+    let at = output::put_built(answer, 0, built.number(), built.value());
+    if built.number() != 0 {
+        return at;
     }
+    total(
+        &goto,
+        &fall,
+        &held,
+        &live,
+        &out,
+        built.value(),
+        profile,
+        answer,
+        at,
+    )
 }
 
-// Tallies the profile over the tables, of so many rows.
+// Tallies the profile over the tables, of so many rows, and puts what that came to.
 fn total(
     goto: &[u16],
     fall: &[u16],
@@ -34,25 +67,39 @@ fn total(
     out: &[u64],
     rows: usize,
     profile: &[u8],
-) {
+    answer: &mut [u8],
+    at: usize,
+) -> usize
+    ensures { λ r. ⌜ PutsTotal (five (now (goto .entry)) (now (fall .entry)) (now (held .entry)) (now (live .entry)) (now (out .entry))) rows (now (profile .entry)) (now (answer .entry)) at (now (answer .exit)) r ⌝ }
+{
     let mut sums = [0u64; Book::RULES];
     let tallied = tally::tally(goto, fall, held, live, out, rows, profile, &mut sums);
-    if tallied.number() == 0 {
-        show(&sums);
-    } else {
-        inputs::refuse(tallied.number(), tallied.value());
+    if tallied.number() != 0 {
+        return output::put_refusal(answer, at, tallied.number(), tallied.value());
     }
+    show(&sums, answer, at)
 }
 
-// A line for each sum that is not 0: the rule and the sum.
-fn show(sums: &[u64]) {
+// Puts a line for each sum that is not 0.
+fn show(sums: &[u64], answer: &mut [u8], at: usize) -> usize
+    ensures { λ _. ⌜ length (sumLines 0 (now (sums .entry))) ≤ 42 * length (now (sums .entry)) ⌝ }
+    ensures { λ r. ⌜ Puts (sumLines 0 (now (sums .entry))) (now (answer .entry)) at (now (answer .exit)) r ⌝ }
+{
+    let mut to = at;
     let mut rule = 0;
     while rule < sums.len() {
-        if sums[rule] != 0 {
-            inputs::put(b"", rule as u64);
-            inputs::put(b" ", sums[rule]);
-            inputs::end_line();
-        }
+        to = show_sum(rule as u64, sums[rule], answer, to);
         rule += 1;
     }
+    to
+}
+
+// Puts the rule and its sum, where that is not 0.
+fn show_sum(rule: u64, sum: u64, answer: &mut [u8], at: usize) -> usize
+    ensures { λ r. ⌜ Puts (sumLine rule sum) (now (answer .entry)) at (now (answer .exit)) r ⌝ }
+{
+    if sum == 0 {
+        return at;
+    }
+    output::put_pair(answer, at, b"", rule, b" ", sum)
 }

@@ -13,9 +13,6 @@ enum-known-b c = search needs
 enum-told : tie.Need-enum-told
 enum-told c = search needs
 
-refuse-input-requires : tie.Need-refuse-input-requires
-refuse-input-requires c κs = search needs
-
 returns : tie.Need-returns
 returns c = search needs
 
@@ -27,9 +24,6 @@ enum-known-t c = search needs
 
 enum-told-2 : tie.Need-enum-told-2
 enum-told-2 c = search needs
-
-refuse-input-requires-2 : tie.Need-refuse-input-requires-2
-refuse-input-requires-2 c κs = search needs
 
 returns-2 : tie.Need-returns-2
 returns-2 c = search needs
@@ -47,11 +41,9 @@ read-both-spec =
     read-book-requires
     enum-known-b
     enum-told
-    refuse-input-requires
     returns
     read-text-requires
     enum-known-t
     enum-told-2
-    refuse-input-requires-2
     returns-2
     returns-3)

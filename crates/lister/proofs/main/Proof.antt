@@ -41,6 +41,12 @@ list-requires c κs = search needs
 enum-told : tie.Need-enum-told
 enum-told c = search needs
 
+slice-aggregate-write : tie.Need-slice-aggregate-write
+slice-aggregate-write c = search needs
+
+write-requires : tie.Need-write-requires
+write-requires c κs = search needs
+
 returns : tie.Need-returns
 returns c = search needs
 
@@ -61,5 +67,7 @@ main-spec =
     part-list-end-2
     list-requires
     enum-told
+    slice-aggregate-write
+    write-requires
     returns
     returns-2)

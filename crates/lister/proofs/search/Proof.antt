@@ -1,6 +1,11 @@
--- `search` meets its contract: an accepted walk's reports are within the buffer that it was lent. Assumes nothing.
+-- `search` meets its contract: the lines shown are those of the walk's reports, and the line of a refusal is that of its answer. Assumes nothing.
+use Prim.Native.Nat.{ℕ}
+use native.Mathlib.Omega.{arith}
 use borrow.Author.Needs.{needs}
+use lib.ListN.{replicate, length-replicate}
+use Rattle.build.specs.Promise.{five}
 use Rattle.walk.proofs.Room.{accepted-within}
+use Rattle.lister.proofs.Laws.{search-shown, search-refused}
 use Rattle.lister.proofs.search.Statement.{statement}
 use Rattle.lister.proofs.search.Tie as tie
 
@@ -18,9 +23,9 @@ slice-aggregate-show c = search needs
 
 show-requires : tie.Need-show-requires
 show-requires c κs =
-    let k = c .before .before in
-    let m = k .before .before .before in
-    let a = m .before .before .before .before .before .before .before .before .args in
+    let k = c .before .before .before in
+    let w = k .before .before .before in
+    let a = w .before .before .before .before .before .before .before .before .before .args in
     accepted-within
     (a .goto .now)
     (a .fall .now)
@@ -29,8 +34,8 @@ show-requires c κs =
     (a .out .now)
     (a .text .now)
     (a .rows)
-    (m .walk .kept .1 .1 .1 .1 .1 .1 .1 .0)
-    (m .walk .ensures .0)
+    (w .walk .kept .1 .1 .1 .1 .1 .1 .1 .0)
+    (w .walk .ensures .0)
     (k .walked .given .1)
 
 number-requires : tie.Need-number-requires
@@ -39,14 +44,54 @@ number-requires c κs = search needs
 value-requires : tie.Need-value-requires
 value-requires c κs = search needs
 
-refuse-requires : tie.Need-refuse-requires
-refuse-requires c κs = search needs
+put-refusal-requires : tie.Need-put-refusal-requires
+put-refusal-requires c κs = search needs
+
+same-length : tie.Need-same-length
+same-length c = search needs
 
 returns : tie.Need-returns
-returns c = search needs
+returns c =
+    let s = c .before .before in
+    let k = s .before .before .before .before in
+    let w = k .before .before .before in
+    let a = w .before .before .before .before .before .before .before .before .before .args in
+    search-shown
+    (five (a .goto .now) (a .fall .now) (a .held .now) (a .live .now) (a .out .now))
+    (a .rows)
+    (a .text .now)
+    _
+    _
+    (length-replicate {A = ℕ} 16384 0)
+    (w .walk .ensures .0)
+    (k .walked .given .1)
+    (w .walk .ensures .1)
+    (s .show .ensures .0)
+    (s .show .ensures .1)
+
+same-length-2 : tie.Need-same-length-2
+same-length-2 c = search needs
 
 returns-2 : tie.Need-returns-2
-returns-2 c = search needs
+returns-2 c =
+    let s = c .before .before in
+    let v = s .before in
+    let i = v .before in
+    let m = i .before .before in
+    let w = m .before .before in
+    let a = w .before .before .before .before .before .before .before .before .before .args in
+    search-refused
+    (five (a .goto .now) (a .fall .now) (a .held .now) (a .live .now) (a .out .now))
+    (a .rows)
+    (a .text .now)
+    (w .walk .result)
+    (replicate 16384 0)
+    (length-replicate {A = ℕ} 16384 0)
+    (w .walk .ensures .0)
+    (m .match .keys2)
+    (omega (arith, i .number .ensures))
+    (omega (arith, v .value .ensures))
+    (rw (i .number .ensures, v .value .ensures) at (s .put-refusal .ensures))
 
 pub search-spec : {M : Type 1} → statement M
 search-spec =
@@ -59,6 +104,8 @@ search-spec =
     show-requires
     number-requires
     value-requires
-    refuse-requires
+    put-refusal-requires
+    same-length
     returns
+    same-length-2
     returns-2)

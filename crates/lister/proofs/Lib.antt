@@ -1,0 +1,2 @@
+-- The laws of the lister. Assumes nothing.
+pub mod Laws

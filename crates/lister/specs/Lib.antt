@@ -1,0 +1,2 @@
+-- What the contracts of the lister cite. Assumes nothing.
+pub mod Listing

@@ -1,0 +1,3 @@
+-- The laws of `output`. Assumes nothing.
+pub mod Laws
+pub mod Room

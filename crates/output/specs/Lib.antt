@@ -1,0 +1,2 @@
+-- The definitions of `output`. Assumes nothing.
+pub mod Printed

@@ -1,0 +1,2 @@
+-- The laws of the summer. Assumes nothing.
+pub mod Laws

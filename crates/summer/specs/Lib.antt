@@ -1,0 +1,2 @@
+-- What the contracts of the summer cite. Assumes nothing.
+pub mod Summing

@@ -13,7 +13,7 @@ use denote.Enum.Declared.{tagOf}
 use lib.Dec.{ltb}
 use lib.ListN.{length, getD, take, drop, length-append}
 use lib.Seq.{take-suc, take-at, length-take-le}
-use Rattle.output.specs.Printed.{Puts, numeral, pairLine, refusedLine}
+use Rattle.output.specs.Printed.{Puts, pairLine, refusedLine}
 use Rattle.output.proofs.Room.{numeral-32, numeral-64, pair-length, refused-length}
 use Rattle.meaning.specs.Tables.{Five}
 use Rattle.walk.specs.declared.Counted.{Counted}
@@ -24,7 +24,7 @@ use Rattle.walk.specs.declared.Walked.the-variants.{Accepted, TooLong, BadRows,
 use Rattle.walk.specs.Walk.{runOf, reportsOf, answerOf, hasRows, walkOf, written, bufferOf, numberOf, valueOf}
 use Rattle.walk.proofs.Laws.{Right, counted, has-rows}
 use Rattle.book.specs.Limits.{mostBytes}
-use Rattle.lister.specs.Listing.{reportLines, shownLines, walkedLines, searchLines, searchRoom, PutsSearch}
+use Rattle.lister.specs.Listing.{reportLines, shownLines, walkedLines, searchLines, PutsSearch}
 
 -- ---- lines put behind lines
 

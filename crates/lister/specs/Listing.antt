@@ -47,7 +47,7 @@ abbrev pub listRoom : ℕ
 listRoom = 64 + searchRoom
 
 -- The lister's answer: a build of the book keeps its promise, and what is written are the lines of what it came to.
-pub record Listed (book text answer : List ℕ) : Type 0 where
+pub record ListerAnswer (book text answer : List ℕ) : Type 0 where
   pub built : Built
   pub tables : Five
   pub kept : Promise book lentTables tables built

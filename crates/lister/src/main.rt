@@ -8,7 +8,7 @@ ghost use Prim.Native.Nat.{_+_, _*_, _≤_};
 ghost use lib.ListN.{length, take};
 ghost use Rattle.build.specs.Promise.{five};
 ghost use Rattle.output.specs.Printed.{Puts};
-ghost use Rattle.lister.specs.Listing.{reportLines, shownLines, PutsSearch, listRoom, Listed};
+ghost use Rattle.lister.specs.Listing.{reportLines, shownLines, PutsSearch, listRoom, ListerAnswer};
 
 // How many reports there is room for, and the places of their buffer, two a report.
 const REPORTS: usize = 8192;
@@ -39,7 +39,7 @@ fn list(book: &[u8], text: &[u8]) {
 fn put_answer(book: &[u8], text: &[u8], answer: &mut [u8]) -> usize
     requires { ⌜ listRoom ≤ length (now answer) ⌝ }
     ensures { λ r. ⌜ r ≤ length (now (answer .exit)) ⌝ }
-    ensures { λ r. ⌜ Listed (now (book .entry)) (now (text .entry)) (take r (now (answer .exit))) ⌝ }
+    ensures { λ r. ⌜ ListerAnswer (now (book .entry)) (now (text .entry)) (take r (now (answer .exit))) ⌝ }
 {
     let mut goto = [0u16; inputs::ENTRIES];
     let mut fall = [0u16; inputs::ROWS];

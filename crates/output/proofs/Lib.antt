@@ -1,3 +1,4 @@
 -- The laws of `output`. Assumes nothing.
 pub mod Laws
 pub mod Room
+pub mod Examples

@@ -10,7 +10,7 @@ use native.Mathlib.Numerals.{add-one}
 use borrow.Author.Tests.{eq-eqb, ne-eqb}
 use lib.ListN.{length, getD, take, length-append}
 use lib.Seq.{take-suc, length-take-le}
-use Rattle.output.specs.Printed.{Puts, pairLine, refusedLine}
+use Rattle.output.specs.Printed.{Puts, refusedLine}
 use Rattle.output.proofs.Room.{numeral-64, pair-length, refused-length}
 use Rattle.meaning.specs.Tables.{Five}
 use Rattle.tally.specs.declared.Tallied.{Tallied}

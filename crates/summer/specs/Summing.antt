@@ -48,7 +48,7 @@ abbrev pub sumsRoom : ℕ
 sumsRoom = 64 + totalRoom
 
 -- The summer's answer: a build of the book keeps its promise, and what is written are the lines of what it came to.
-pub record SumsListed (book profile answer : List ℕ) : Type 0 where
+pub record SummerAnswer (book profile answer : List ℕ) : Type 0 where
   pub built : Built
   pub tables : Five
   pub kept : Promise book lentTables tables built

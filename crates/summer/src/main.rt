@@ -7,7 +7,7 @@ ghost use Prim.Native.Nat.{_*_, _≤_};
 ghost use lib.ListN.{length, take};
 ghost use Rattle.build.specs.Promise.{five};
 ghost use Rattle.output.specs.Printed.{Puts};
-ghost use Rattle.summer.specs.Summing.{sumLine, sumLines, PutsTotal, sumsRoom, SumsListed};
+ghost use Rattle.summer.specs.Summing.{sumLine, sumLines, PutsTotal, sumsRoom, SummerAnswer};
 
 // The room for an answer: for each rule a line of two numbers of up to 20 digits, and a line of up to 64 bytes before these.
 const ROOM: usize = 64 + 42 * Book::RULES;
@@ -33,7 +33,7 @@ fn sum(book: &[u8], profile: &[u8]) {
 fn put_answer(book: &[u8], profile: &[u8], answer: &mut [u8]) -> usize
     requires { ⌜ sumsRoom ≤ length (now answer) ⌝ }
     ensures { λ r. ⌜ r ≤ length (now (answer .exit)) ⌝ }
-    ensures { λ r. ⌜ SumsListed (now (book .entry)) (now (profile .entry)) (take r (now (answer .exit))) ⌝ }
+    ensures { λ r. ⌜ SummerAnswer (now (book .entry)) (now (profile .entry)) (take r (now (answer .exit))) ⌝ }
 {
     let mut goto = [0u16; inputs::ENTRIES];
     let mut fall = [0u16; inputs::ROWS];

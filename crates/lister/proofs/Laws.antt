@@ -5,9 +5,7 @@ use mathlib.Core.List.{List, [], _∷_, _++_, append-assoc, append-nil}
 use mathlib.Core.Path.{_≡_, refl, sym, ap, subst, _∙_}
 use Prim.Native.Nat.{ℕ, zero, suc, _+_, _-_, _*_, _/_, _^_, _≤_, _<_}
 use native.Mathlib.Omega.{arith}
-use native.Mathlib.Decide.{decLt}
 use native.Mathlib.Numerals.{add-one}
-use borrow.Author.Tests.{lt-ltb, le-ltb}
 use types.Run.{OneOf}
 use denote.Enum.Declared.{tagOf}
 use lib.Dec.{ltb}
@@ -23,6 +21,7 @@ use Rattle.walk.proofs.Walked.{the-type}
 use Rattle.walk.specs.declared.Walked.the-variants.{Accepted, TooLong, BadRows, Damaged, NoRoom}
 use Rattle.walk.specs.Walk.{runOf, reportsOf, answerOf, hasRows, walkOf, written, bufferOf, numberOf, valueOf}
 use Rattle.walk.proofs.Laws.{Right, counted, has-rows}
+use Rattle.walk.proofs.Room.{accepted-within}
 use Rattle.book.specs.Limits.{mostBytes}
 use Rattle.lister.specs.Listing.{reportLines, shownLines, walkedLines, searchLines, PutsSearch}
 
@@ -72,23 +71,23 @@ shown-length reports made falls held h small f l =
 
 -- ---- the reports of an accepted walk
 
--- an accepted walk counts its reports, and has room for them
-abbrev Told : Walked → ℕ → List ℕ → Type 0
-Told (Accepted made falls held) space reports = (2 * made ≡ length reports) × (2 * made ≤ space)
-Told TooLong space reports = Unit {0}
-Told (BadRows n) space reports = Unit {0}
-Told (Damaged at) space reports = Unit {0}
-Told (NoRoom made) space reports = Unit {0}
+-- an accepted walk counts its reports
+abbrev Told : Walked → List ℕ → Type 0
+Told (Accepted made falls held) reports = 2 * made ≡ length reports
+Told TooLong reports = Unit {0}
+Told (BadRows n) reports = Unit {0}
+Told (Damaged at) reports = Unit {0}
+Told (NoRoom made) reports = Unit {0}
 
-told-run : (n space : ℕ) (held reports : List ℕ) (x : Counted) → Right n 0 reports x → Told (answerOf held (space / 2) x) space reports
-told-run n space held reports (Read made falls row) h =
-    elim (decLt (space / 2) made) [
-      | yes l ↦ rw (lt-ltb (space / 2) made l) tt
-      | no g ↦ let l : made ≤ space / 2 = omega arith in rw (le-ltb (space / 2) made l) (omega arith, omega (arith, l))
-    ]
-told-run n space held reports (Stopped at) h = tt
+told-run : (n room : ℕ) (held reports : List ℕ) (x : Counted) → Right n 0 reports x → Told (answerOf held room x) reports
+told-run n room held reports (Read made falls row) h = go (ltb room made)
+  where
+    go : (q : Bool) → Told (cond q (NoRoom made) (Accepted made falls (getD held row 0))) reports
+    go true = tt
+    go false = omega arith
+told-run n room held reports (Stopped at) h = tt
 
-told : (b : Five) (n : ℕ) (text : List ℕ) (space : ℕ) → Told (walkOf b n text space) space (reportsOf (b .goto) (b .fall) (b .out) n text)
+told : (b : Five) (n : ℕ) (text : List ℕ) (space : ℕ) → Told (walkOf b n text space) (reportsOf (b .goto) (b .fall) (b .out) n text)
 told b n text space = go (ltb mostBytes (length text)) (hasRows b n) refl
   where
     run : Counted
@@ -97,9 +96,9 @@ told b n text space = go (ltb mostBytes (length text)) (hasRows b n) refl
     reports : List ℕ
     reports = reportsOf (b .goto) (b .fall) (b .out) n text
 
-    go : (long rows : Bool) → rows ≡ hasRows b n → Told (cond long TooLong (cond rows (answerOf (b .held) (space / 2) run) (BadRows n))) space reports
+    go : (long rows : Bool) → rows ≡ hasRows b n → Told (cond long TooLong (cond rows (answerOf (b .held) (space / 2) run) (BadRows n))) reports
     go true rows e = tt
-    go false true e = told-run n space (b .held) reports run (counted (b .goto) (b .fall) (b .out) n text (omega (arith, has-rows b n (sym e) .0)) refl refl)
+    go false true e = told-run n (space / 2) (b .held) reports run (counted (b .goto) (b .fall) (b .out) n text (omega (arith, has-rows b n (sym e) .0)) refl refl)
     go false false e = tt
 
 -- every other answer is refused
@@ -123,7 +122,8 @@ module _ (b : Five) (n : ℕ) (text : List ℕ) where
   search-shown {made} {falls} {last} {at} {e} {r} {l} {l′} old new size p q z short put =
       let reports = reportsOf (b .goto) (b .fall) (b .out) n text in
       let is : walkOf b n text 16384 ≡ Accepted made falls last = ap (walkOf b n text) (sym size) ∙ sym p ∙ q in
-      let (many, few) = subst (λ w. Told w 16384 reports) is (told b n text 16384) in
+      let many = subst (λ w. Told w reports) is (told b n text 16384) in
+      let few : 2 * made ≤ 16384 = accepted-within (b .goto) (b .fall) (b .held) (b .live) (b .out) text n (sym size) p q in
       let left : new ≡ written reports old = z ∙ ap (λ w. bufferOf w reports old) q in
       let all : take (2 * made) new ≡ reports = ap (take (2 * made)) left ∙ take-at reports (drop (length reports) old) (2 * made) (sym many) in
       let lines : shownLines (take (2 * made) new) falls last ≡ searchLines b n text = ap (λ rs. shownLines rs falls last) all ∙ ap (λ w. walkedLines w reports) (sym is) in

@@ -5,8 +5,6 @@ use mathlib.Core.Bool.{Bool, true, false}
 use native.Mathlib.Omega.{arith}
 use borrow.Author.Tests.{ltb-true, ltb-false, eqb-true, eqb-false}
 use lib.Dec.{eqb, ltb}
-use Rattle.book.specs.declared.Refusal.{Refusal}
-use Rattle.book.specs.declared.Answer.the-variants.{Accepted, Refused}
 
 -- by cases on a test, with the equation
 pub by-test : {A : Type 0} (t : Bool) → (t ≡ true → A) → (t ≡ false → A) → A
@@ -22,7 +20,3 @@ by-eq a b f g = by-test (eqb a b) (λ e. f (eqb-true a b e)) (λ e. g (eqb-false
 -- a test has one value
 pub clash : {A : Type 0} {t : Bool} → t ≡ true → t ≡ false → A
 clash x y = absurd (let z : _≡_ {A = ℕ} 0 1 = cc in omega arith)
-
--- a refusal is no acceptance
-pub never : {A : Type 0} {x : Refusal} → Refused x ≡ Accepted → A
-never e = absurd (let z : _≡_ {A = ℕ} 0 1 = cc in omega arith)

@@ -6,14 +6,14 @@ use lib.ListN.{getD}
 use lib.Dec.{eqb}
 use Rattle.sets.specs.Sets.{has}
 use Rattle.meaning.specs.Rules.{fits}
-use Rattle.book.specs.Meant.{memberIn, rulesIn, Fits}
+use Rattle.book.specs.Meant.{memberIn, rulesIn, SaysWhetherFits}
 
 -- a byte fits itself, and a picture in its set
 module _ (map : List ℕ) (c s : ℕ) where
-  pub fits-byte : s < 256 → Fits map c s (eqb c s)
+  pub fits-byte : s < 256 → SaysWhetherFits map c s (eqb c s)
   unfolding rulesIn fits
   fits-byte h symbols lengths n = rw (lt-ltb s 256 h)
 
-  pub fits-picture : 256 ≤ s → Fits map c s (has (getD map c 0) (s - 256))
+  pub fits-picture : 256 ≤ s → SaysWhetherFits map c s (has (getD map c 0) (s - 256))
   unfolding rulesIn memberIn fits
   fits-picture h symbols lengths n = rw (le-ltb s 256 h)

@@ -10,11 +10,11 @@ use Rattle.sets.proofs.Laws.{has-empty}
 use Rattle.meaning.specs.Rules.{Rules, count, size, symbol}
 use Rattle.book.specs.declared.Book.{Book}
 use Rattle.book.specs.Limits.{mostRules, mostSymbols}
-use Rattle.book.specs.Content.{Content, member, table, rows, sizes, mapOf, recordOf}
+use Rattle.book.specs.Content.{Content, member, table, padded, sizes, mapOf, recordOf}
 use Rattle.book.specs.Sound.{Sound}
 use Rattle.book.specs.Meant.{rulesOf, memberIn, rulesIn, rulesHeld}
 use Rattle.book.proofs.Cases.{by-test, by-lt}
-use Rattle.book.proofs.Tables.{length-table, getD-table, is-table, getD-rows, getD-sizes}
+use Rattle.book.proofs.Tables.{length-table, getD-table, is-table, getD-padded, getD-sizes}
 use Rattle.book.proofs.Pictures.{getD-map, length-map, has-pictures}
 
 -- ---- place by place
@@ -39,7 +39,7 @@ module _ (symbols lengths picture : List ℕ) (n : ℕ) where
 
 module _ (a : Content) (S : Sound a) where
   -- the rules by the arrays and by the lists
-  rules-same : table (length (a .rules)) (λ k. table (getD (sizes mostRules (a .rules)) k 0) (λ j. getD (rows mostRules mostSymbols (a .rules)) (mostSymbols * k + j) 0)) ≡ a .rules
+  rules-same : table (length (a .rules)) (λ k. table (getD (sizes mostRules (a .rules)) k 0) (λ j. getD (padded mostRules mostSymbols (a .rules)) (mostSymbols * k + j) 0)) ≡ a .rules
   rules-same =
       ext-getD [] (table (length (a .rules)) _) (a .rules) (length-table (length (a .rules)) _)
       (λ k h.
@@ -48,7 +48,7 @@ module _ (a : Content) (S : Sound a) where
       let s = getD-sizes mostRules (a .rules) k m in
       getD-table (length (a .rules)) _ k [] i
       ∙ sym (is-table (getD (sizes mostRules (a .rules)) k 0) _ (getD (a .rules) k []) (sym s)
-      (λ j l. sym (getD-rows mostRules mostSymbols (a .rules) k j m (omega (arith, S .short k))))))
+      (λ j l. sym (getD-padded mostRules mostSymbols (a .rules) k j m (omega (arith, S .short k))))))
 
   -- no picture has a number that is no byte
   pub member-past : (p c : ℕ) → 256 ≤ c → false ≡ member c (getD (a .pictures) p [])

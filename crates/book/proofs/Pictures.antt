@@ -12,7 +12,7 @@ use Rattle.sets.specs.Sets.{has, adding}
 use Rattle.sets.proofs.Laws.{has-in, has-setWhere, setWhere-ext, adding-again}
 use Rattle.book.specs.Limits.{mostPictures}
 use Rattle.book.specs.Content.{member, picturesWith, mapOf}
-use Rattle.book.specs.Leaves.{mark}
+use Rattle.book.specs.Grown.{mark}
 use Rattle.book.proofs.Cases.{by-test, by-lt}
 use Rattle.book.proofs.Tables.{length-table, getD-table, is-table, at-snoc}
 

@@ -7,7 +7,7 @@ use lib.Arith.{digits-lt, digits-div, digits-mod}
 use native.Mathlib.Omega.{arith}
 use lib.ListN.{length, getD, set, replicate, length-set, length-append, List·getD-append, List·getD-eq-default}
 use lib.Seq.{sets, length-sets, ext-getD, getD-set-same, getD-set-other, getD-append-seam}
-use Rattle.book.specs.Content.{symbolAt, table, rows, sizes}
+use Rattle.book.specs.Content.{symbolAt, table, padded, sizes}
 use Rattle.book.proofs.Cases.{by-lt, by-eq}
 
 pub length-table : {A : Type 0} (n : ℕ) (f : ℕ → A) → length (table n f) ≡ n
@@ -71,11 +71,11 @@ module _ (rs : List (List ℕ)) (r : List ℕ) where
       (λ e. rw (e, snoc-here) (f e))
       (λ n. rw (snoc-other q n) (g n))
 
--- ---- rows
+-- ---- padded lists
 
-pub getD-rows : (n w : ℕ) (rs : List (List ℕ)) (k j : ℕ) → k < n → j < w → getD (rows n w rs) (w * k + j) 0 ≡ symbolAt rs k j
-unfolding rows
-getD-rows n w rs k j h i =
+pub getD-padded : (n w : ℕ) (rs : List (List ℕ)) (k j : ℕ) → k < n → j < w → getD (padded n w rs) (w * k + j) 0 ≡ symbolAt rs k j
+unfolding padded
+getD-padded n w rs k j h i =
     let c : w * k ≡ k * w = mul-comm w k in
     rw c
     (getD-table (n * w) (λ x. symbolAt rs (x / w) (x % w)) (k * w + j) 0 (digits-lt h i)
@@ -85,12 +85,12 @@ pub getD-sizes : (n : ℕ) (rs : List (List ℕ)) (k : ℕ) → k < n → getD (
 unfolding sizes
 getD-sizes n rs k h = getD-table n (λ i. length (getD rs i [])) k 0 h
 
--- row k, which was empty, is stored: the lists are the same but at k
+-- list k, which was empty, is stored: the lists are the same but at k
 module _ (n k : ℕ) (rs ss : List (List ℕ)) (r : List ℕ) (h : k < n) (none : getD rs k [] ≡ []) (here : getD ss k [] ≡ r)
     (other : (q : ℕ) → (q ≡ k → ⊥) → getD ss q [] ≡ getD rs q []) where
-  row-at : (w x : ℕ) → length r ≤ w → x < n * w → getD (sets (rows n w rs) (w * k) r) x 0 ≡ symbolAt ss (x / w) (x % w)
-  unfolding rows
-  row-at w x f m =
+  list-at : (w x : ℕ) → length r ≤ w → x < n * w → getD (sets (padded n w rs) (w * k) r) x 0 ≡ symbolAt ss (x / w) (x % w)
+  unfolding padded
+  list-at w x f m =
       let d : x / w * w + x % w ≡ x = div-add-mod' x w in
       let z : x % w < w = mod-lt x (by-eq w 0 (λ e. absurd (let y : x < n * 0 = rw e at m in omega (arith, mul-zero n))) (λ e. omega arith)) in
       let c : w * k ≡ k * w = mul-comm w k in
@@ -120,12 +120,12 @@ module _ (n k : ℕ) (rs ss : List (List ℕ)) (r : List ℕ) (h : k < n) (none 
       c′ : x / w * w + x % w ≡ x → x / w ≡ k → w * k ≡ k * w → w * k + x % w ≡ x
       c′ d q c = rw (c, ← q) d
 
-  pub rows-set : (w : ℕ) → length r ≤ w → sets (rows n w rs) (w * k) r ≡ rows n w ss
-  unfolding rows
-  rows-set w f =
-      is-table (n * w) (λ x. symbolAt ss (x / w) (x % w)) (sets (rows n w rs) (w * k) r)
-      (length-sets (rows n w rs) (w * k) r ∙ length-table (n * w) (λ x. symbolAt rs (x / w) (x % w)))
-      (λ x m. row-at w x f m)
+  pub padded-set : (w : ℕ) → length r ≤ w → sets (padded n w rs) (w * k) r ≡ padded n w ss
+  unfolding padded
+  padded-set w f =
+      is-table (n * w) (λ x. symbolAt ss (x / w) (x % w)) (sets (padded n w rs) (w * k) r)
+      (length-sets (padded n w rs) (w * k) r ∙ length-table (n * w) (λ x. symbolAt rs (x / w) (x % w)))
+      (λ x m. list-at w x f m)
 
   pub sizes-set : set (sizes n rs) k (length r) ≡ sizes n ss
   unfolding sizes

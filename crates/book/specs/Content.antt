@@ -47,9 +47,9 @@ unfoldable pub table : {A : Type 0} → ℕ → (ℕ → A) → List A
 table zero f = []
 table (suc n) f = f zero ∷ table n (λ k. f (suc k))
 
--- n rows of w places each: row k has the elements of list k, and 0 after them
-unfoldable pub rows : ℕ → ℕ → List (List ℕ) → List ℕ
-rows n w rs = table (n * w) (λ i. symbolAt rs (i / w) (i % w))
+-- n lists in w places each, one after the other: the elements of list k, and 0 after them
+unfoldable pub padded : ℕ → ℕ → List (List ℕ) → List ℕ
+padded n w rs = table (n * w) (λ i. symbolAt rs (i / w) (i % w))
 
 -- the lengths of n lists, 0 where there is none
 unfoldable pub sizes : ℕ → List (List ℕ) → List ℕ
@@ -62,7 +62,7 @@ mapOf ps = table 256 (picturesWith ps)
 -- places for the symbols of each rule, each rule's length, the pictures with each byte value, and the two counts
 unfoldable pub recordOf : Content → Book
 recordOf a = record {
-  symbols = rows mostRules mostSymbols (a .rules);
+  symbols = padded mostRules mostSymbols (a .rules);
   lengths = sizes mostRules (a .rules);
   picture = mapOf (a .pictures);
   pictures = length (a .pictures);

@@ -1,5 +1,5 @@
 -- A book as rules, which is what tables and walks are about: the rules of a content, and those of the arrays of a record. Assumes nothing.
-use Prim.Native.Nat.{ℕ, _+_, _*_, _≤_}
+use Prim.Native.Nat.{ℕ, _+_, _*_}
 use mathlib.Core.Path.{_≡_}
 use mathlib.Core.Bool.{Bool}
 use mathlib.Core.List.{List, []}
@@ -7,10 +7,8 @@ use lib.ListN.{getD}
 use Rattle.sets.specs.Sets.{has}
 use Rattle.meaning.specs.Rules.{Rules, fits}
 use Rattle.book.specs.declared.Book.{Book}
-use Rattle.book.specs.Limits.{mostRules, mostSymbols}
-use Rattle.book.specs.Content.{Content, member, table, recordOf}
-use Rattle.book.specs.Format.{means, meaningOf}
-use Rattle.book.specs.Sound.{Lawful}
+use Rattle.book.specs.Limits.{mostSymbols}
+use Rattle.book.specs.Content.{Content, member, table}
 
 -- the rules of a book that holds a
 abbrev pub rulesOf : Content → Rules
@@ -32,15 +30,5 @@ abbrev pub rulesHeld : Book → Rules
 rulesHeld b = rulesIn (b .symbols) (b .lengths) (b .picture) (b .rules)
 
 -- t says whether the byte c fits the symbol s, whichever rules the map stands beside
-abbrev pub Fits : List ℕ → ℕ → ℕ → Bool → Type 0
-Fits map c s t = (symbols lengths : List ℕ) (n : ℕ) → t ≡ fits (rulesIn symbols lengths map n) c s
-
--- the bytes s are accepted with the record b, whose rules are those of what the book holds
-pub record Accepting (s : List ℕ) (b : Book) : Type 0 where
-  pub content : Content
-  pub meant : meaningOf s ≡ means content
-  pub lawful : Lawful s content
-  pub held : b ≡ recordOf content
-  pub same : rulesHeld b ≡ rulesOf content
-  pub few : b .rules ≤ mostRules
-  pub short : (k : ℕ) → getD (b .lengths) k 0 ≤ mostSymbols
+abbrev pub SaysWhetherFits : List ℕ → ℕ → ℕ → Bool → Type 0
+SaysWhetherFits map c s t = (symbols lengths : List ℕ) (n : ℕ) → t ≡ fits (rulesIn symbols lengths map n) c s

@@ -24,7 +24,7 @@ fn main() {
 // ---- what is written
 
 fn show(label: &[u8], bytes: &[u8]) {
-    let got = book::read(bytes);
+    let got = reader::read(bytes);
     let answer = got.answer;
     let b = got.book;
     let symbols = b.symbols;

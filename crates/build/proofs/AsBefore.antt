@@ -6,10 +6,10 @@ use Rattle.rows.specs.Rows.{ByteText}
 use Rattle.meaning.specs.Rules.{Rules}
 use Rattle.meaning.specs.Tables.{Five}
 use Rattle.book.specs.Content.{Content}
-use Rattle.book.specs.Format.{Meaning, means, meaningOf}
+use Rattle.format.specs.Format.{Meaning, means, meaningOf}
 use Rattle.book.specs.Meant.{rulesOf}
 use Rattle.book.specs.Apart.{Apart, rulesBefore}
-use Rattle.book.proofs.Sizes.{lawful}
+use Rattle.format.proofs.Sizes.{lawful}
 use Rattle.book.proofs.Meant.{rules-same-held}
 use Rattle.book.proofs.Apart.{apart-as-before}
 use Rattle.build.specs.Promise.{numberOf, valueOf, Builds, Answers, builds, refuses}

@@ -10,16 +10,17 @@ use Rattle.rows.specs.Rows.{MoreThan, AtMost}
 use Rattle.rows.proofs.Rows.{not-both}
 use Rattle.meaning.specs.Rules.{Rules}
 use Rattle.meaning.specs.Standing.{Same}
-use Rattle.meaning.specs.Tables.{Five, Tables}
+use Rattle.meaning.specs.Tables.{Five, Tables, Alike}
 use Rattle.meaning.proofs.Congruent.{congruence}
-use Rattle.meaning.proofs.Unique.{rows-or-more, Alike, one-five, one-count}
-use Rattle.book.specs.declared.Refusal.{Refusal}
+use Rattle.meaning.proofs.Unique.{rows-or-more, one-five, one-count}
+use Rattle.format.specs.declared.Refusal.{Refusal}
 use Rattle.book.specs.Content.{Content}
-use Rattle.book.specs.Answers.{number}
-use Rattle.book.specs.Format.{Meaning, means, refused, meaningOf}
+use Rattle.format.specs.Answers.{number}
+use Rattle.format.specs.Format.{Meaning, means, refused, meaningOf}
 use Rattle.book.specs.Meant.{rulesOf}
-use Rattle.book.proofs.Numbers.{number-some, refusal-of, is-refusal}
-use Rattle.build.specs.Promise.{numberOf, valueOf, lent, AsLong, Builds, accepted, no-room, Answers, builds, refuses}
+use Rattle.format.proofs.Numbers.{number-some, refusal-of, is-refusal}
+use Rattle.lent.specs.Lent.{lent, AsLong}
+use Rattle.build.specs.Promise.{numberOf, valueOf, Builds, accepted, no-room, Answers, builds, refuses}
 use Rattle.build.specs.Exact.{Crowded, Fitting, Exactly, RoomExactly, RowsOrMore, OfWords, OneOutcome}
 use Rattle.build.specs.declared.Built.{Built}
 use Rattle.build.specs.declared.Built.the-variants.{Rows, NoRoom, Refused}
@@ -113,7 +114,7 @@ pub record Equal (b b′ : Five) (i i′ v v′ : ℕ) : Type 0 where
 pub builds-same : {r : Rules} {old b b′ : Five} {i i′ v v′ : ℕ} → OfWords b → OfWords b′ → Builds r old b i v → Builds r old b′ i′ v′ → Equal b b′ i i′ v v′
 builds-same {r} {b = b} w w′ (accepted {n = n} l t k) (accepted {n = m} l′ t′ k′) =
     let e : n ≡ m = one-count t t′ in
-    record { number-same = refl; value-same = e; buffers-same = one-five (subst (Tables r b) e t) t′ (alike k k′ w w′) }
+    record { number-same = refl; value-same = e; buffers-same = one-five _ _ _ _ (subst (Tables r b) e t) t′ (alike k k′ w w′) }
 builds-same {r} w w′ (accepted l t k) (no-room m) = absurd (not-both (congruence r) (tables-few l t) m)
 builds-same {r} w w′ (no-room m) (accepted l t k) = absurd (not-both (congruence r) (tables-few l t) m)
 builds-same w w′ (no-room m) (no-room m′) = record { number-same = refl; value-same = refl; buffers-same = refl }

@@ -2,16 +2,15 @@
 use Prim.Native.Nat.{ℕ, zero, suc, _+_, _-_, _*_, _^_, _≤_, _<_, min}
 use mathlib.Core.Path.{_≡_, refl, sym, ap, subst, subst⁻¹, _∙_}
 use mathlib.Core.Bool.{Bool, true, false}
-use mathlib.Core.List.{List, [], _∷_, _++_, append-nil}
-use native.Mathlib.Nat.{le-antisymm, le-of-lt, lt-of-lt-of-le, lt-irrefl, zero-add}
+use mathlib.Core.List.{List, [], _∷_, _++_}
+use native.Mathlib.Nat.{le-of-lt, lt-of-lt-of-le, lt-irrefl, zero-add}
 use native.Mathlib.Decide.{decLt}
 use native.Mathlib.Numerals.{add-one}
 use native.Mathlib.Omega.{arith}
 use lib.Pow.{pow-mono}
-use lib.ListN.{length, getD, set, take, drop, replicate, length-set, getD-replicate}
-use lib.Seq.{drop-length, getD-set-same, getD-set-other, getD-drop}
+use lib.ListN.{length, getD, set, take, drop, replicate, getD-replicate}
+use lib.Seq.{getD-set-same, getD-set-other, getD-drop}
 use borrow.Author.Count.{below-more}
-use borrow.Author.Fill.{fill-more}
 use borrow.Author.Tests.{lt-ltb, le-ltb}
 use Rattle.sets.specs.Sets.{has, setWhere, adding, setOf, wordWhere}
 use Rattle.sets.specs.Table.{rowWords}
@@ -23,7 +22,6 @@ use Rattle.meaning.specs.Step.{goesOn, nextLive, finished}
 use Rattle.book.specs.Limits.{mostRules, mostSymbols}
 use Rattle.book.specs.Meant.{rulesIn}
 use Rattle.book.proofs.Meant.{count-in, size-in, symbol-in}
-use Rattle.build.specs.Promise.{zeros}
 use Rattle.build.specs.Sets.{Within, Short, Joins, IsWord, endedIn}
 
 -- ---- a set of rules, word by word
@@ -81,25 +79,6 @@ module _ (symbols lengths picture : List ℕ) (n : ℕ) where
   onward-in h s c q = q ∙ rw (count-in symbols lengths picture n)
 
 -- ---- lists
-
--- the first i entries of a₀ are 0 in a, and the rest are as they were
-pub record Zeroing (a₀ a : List ℕ) (i : ℕ) : Type 0 where
-  pub within : i ≤ length a₀
-  pub long : length a ≡ length a₀
-  pub is : a ≡ replicate i 0 ++ drop i a₀
-
-pub zeroing-start : (a₀ : List ℕ) → Zeroing a₀ a₀ 0
-zeroing-start a₀ = record { within = omega arith; long = refl; is = refl }
-
-pub zeroing-next : {a₀ a : List ℕ} {i : ℕ} → i < length a → Zeroing a₀ a i → Zeroing a₀ (set a i 0) (i + 1)
-zeroing-next {a₀} {a} {i} l z =
-    let h : i < length a₀ = omega (arith, z .long) in
-    record { within = omega arith; long = length-set a i 0 ∙ z .long; is = ap (λ (d : List ℕ). set d i 0) (z .is) ∙ fill-more i 0 a₀ h }
-
-pub zeroing-end : {a₀ a : List ℕ} {i : ℕ} → length a ≤ i → Zeroing a₀ a i → a ≡ zeros a₀
-zeroing-end {a₀} {a} {i} l z =
-    z .is ∙ ap (λ (k : ℕ). replicate k 0 ++ drop k a₀) (le-antisymm (z .within) (omega (arith, z .long))) ∙ ap (λ (r : List ℕ). replicate (length a₀) 0 ++ r) (drop-length a₀)
-    ∙ append-nil (replicate (length a₀) 0)
 
 pub all-zero : (n i : ℕ) → _≡_ {A = ℕ} (getD (replicate n 0) i 0) 0
 all-zero zero i = refl

@@ -5,10 +5,11 @@ use Prim.Native.Nat.{ℕ}
 use Rattle.meaning.specs.Rules.{Rules}
 use Rattle.meaning.specs.Tables.{Five}
 use Rattle.book.specs.declared.Book.{Book}
-use Rattle.book.specs.declared.Refusal.{Refusal}
-use Rattle.book.specs.Answers.{number, value}
-use Rattle.book.specs.Format.{Meaning, refused, meaningOf}
-use Rattle.book.specs.Meant.{rulesHeld, Accepting}
+use Rattle.format.specs.declared.Refusal.{Refusal}
+use Rattle.format.specs.Answers.{number, value}
+use Rattle.format.specs.Format.{Meaning, refused, meaningOf}
+use Rattle.book.specs.Meant.{rulesHeld}
+use Rattle.format.specs.Lawful.{Accepting}
 use Rattle.build.specs.Sets.{Within}
 use Rattle.build.specs.Promise.{numberOf, valueOf, Builds, Answers, builds, refuses, Promise}
 use Rattle.build.specs.Course.{Others, fiveOf, Makes}

@@ -15,7 +15,7 @@ use Rattle.meaning.specs.Tables.{noEntry, gotoAt}
 use Rattle.meaning.specs.Step.{goesOn, nextLive, Follows, goes, falls}
 use Rattle.book.specs.Limits.{mostSymbols}
 use Rattle.build.specs.Sets.{Short}
-use Rattle.build.specs.Course.{Others, numberAt, Leads, Descends, Room, Rising, there, made, Place, root, none, some, Filling, begin, next, RowFilled, whole, RowsOk, IsEntry, Sane, RowBuilt, rowOf, withRow, Building, start, grow, AllFilled, all}
+use Rattle.build.specs.Course.{Others, numberAt, Leads, Descends, RowsUsed, Rising, there, made, Place, root, none, some, Filling, begin, next, RowFilled, whole, RowsOk, IsEntry, Sane, RowBuilt, rowOf, withRow, Building, start, grow, AllFilled, all}
 use Rattle.build.proofs.Laws.{below-set, All, all-append, all-take, all-drop, all-set}
 use Rattle.build.proofs.Steps.{stored-all, Kept, kept-refl, kept-more, place-keeps, filling-keeps, filling-long, filling-room, filling-rising}
 use Rattle.build.specs.declared.Placed.the-variants as placed
@@ -85,7 +85,7 @@ record Rowed (s c : ℕ) (row : List ℕ) (n : ℕ) (t : Others) : Type 0 where
   rooted : s ≡ 0 → (j : ℕ) → j < c → getD row j 0 ≢ noEntry
 
 module _ {r : Rules} {lent : ℕ} (short : Short r) where
-  place-sane : {s c v n e m : ℕ} {t u : Others} → Room lent n t → RowsOk n t → s < n → v < n → Place r lent s c v n t u (placed.Entry e m) → Entered s e m u
+  place-sane : {s c v n e m : ℕ} {t u : Others} → RowsUsed lent n t → RowsOk n t → s < n → v < n → Place r lent s c v n t u (placed.Entry e m) → Entered s e m u
   place-sane room ok hs hv (root z l) = record { ok = ok; entry = inr (omega arith); rooted = λ _ q. omega arith }
   place-sane room ok hs hv (none nz l) = record { ok = ok; entry = inl refl; rooted = λ z _. nz z }
   place-sane room ok hs hv (some ne (there i h k)) = record { ok = ok; entry = inr h; rooted = λ _ q. omega arith }
@@ -101,7 +101,7 @@ module _ {r : Rules} {lent : ℕ} (short : Short r) where
         rooted = λ _ q. omega arith;
       }
 
-  module _ {s n₀ : ℕ} {via row₀ : List ℕ} {t₀ : Others} (room : Room lent n₀ t₀) (ok : RowsOk n₀ t₀) (old : All (IsEntry n₀) row₀) (long : length row₀ ≡ 256) (hs : s < n₀)
+  module _ {s n₀ : ℕ} {via row₀ : List ℕ} {t₀ : Others} (room : RowsUsed lent n₀ t₀) (ok : RowsOk n₀ t₀) (old : All (IsEntry n₀) row₀) (long : length row₀ ≡ 256) (hs : s < n₀)
       (hv : (c : ℕ) → c < 256 → getD via c 0 < n₀) where
     filling-sane : {c n : ℕ} {row : List ℕ} {t : Others} → c ≤ 256 → Filling r lent s via row₀ n₀ t₀ c row n t → Rowed s c row n t
     filling-sane h begin = record { ok = ok; entries = old; rooted = λ z. below-none _ }

@@ -1,26 +1,28 @@
 -- The steps of a build's course as the code takes them, and what they keep. Assumes nothing.
-use mathlib.Core.Path.{_≡_, refl, sym, subst, _∙_}
+use mathlib.Core.Path.{_≡_, refl, sym, subst, subst⁻¹, _∙_}
 use mathlib.Core.Logic.{_≢_}
 use mathlib.Core.Bool.{Bool, _&&_}
-use mathlib.Core.List.{List}
-use Prim.Native.Nat.{ℕ, suc, _+_, _*_, _≤_, _<_}
+use mathlib.Core.List.{List, _++_, append-assoc}
+use Prim.Native.Nat.{ℕ, suc, _+_, _-_, _*_, _≤_, _<_}
 use native.Mathlib.Nat.{le-refl, le-trans, lt-of-lt-of-le}
 use native.Mathlib.Omega.{arith}
 use native.Mathlib.Decide.{decLt}
 use lib.Dec.{eqb}
-use lib.ListN.{length, getD, set, length-set}
-use lib.Seq.{getD-set-same, getD-set-other}
+use lib.ListN.{length, getD, set, take, drop, length-set}
+use lib.Seq.{getD-set-same, getD-set-other, drop-drop, sets, length-sets, sets-eq}
 use borrow.Author.Tests.{eq-eqb}
 use Rattle.sets.specs.Sets.{setOf}
 use Rattle.sets.specs.Table.{rowWords, rulesAt}
 use Rattle.sets.proofs.Table.{rowOf, rules-part, rules-words, row-long, rules-same}
-use Rattle.sets.proofs.Writing.{Writing}
 use Rattle.meaning.specs.Rules.{Rules}
 use Rattle.meaning.specs.Step.{finished}
-use Rattle.build.specs.Course.{Others, numberAt, Stored, Room, Rising, InHand, RowOf, there, made, Place, root, none, some, onward, Filling, begin, next, RowFilled, whole}
+use Rattle.lent.specs.Lent.{storedRow}
+use Rattle.lent.proofs.Storing.{stored-row}
+use Rattle.build.specs.Course.{Others, numberAt, Stored, RowsUsed, Rising, InHand, RowOf, there, made, Place, root, none, some, onward, Filling, begin, next, RowFilled, whole}
 use Rattle.build.specs.declared.Filled.the-variants as filled
 use Rattle.build.specs.declared.Placed.{Placed}
 use Rattle.build.specs.declared.Placed.the-variants as placed
+use Rattle.build.proofs.Parts.{put-before, put-in, put-after}
 
 -- ---- stores
 
@@ -36,14 +38,23 @@ module _ (n v : ℕ) (xs : List ℕ) (room : n < length xs) where
     past = λ i l. other i (λ e. omega arith);
   }
 
--- the words of a set, written in row n
-pub stored-words : {n : ℕ} {xs ys : List ℕ} (ws : List ℕ) → length ws ≡ rowWords → Writing (λ j. getD ws j 0) xs (rowWords * n) rowWords ys → Stored rowWords rulesAt n (setOf ws) xs ys
-stored-words {n} {xs} {ys} ws e w = record {
-  long = w .long;
-  here = rules-words ys n ws (omega arith) (w .done);
-  kept = λ i l. rules-same ys xs i (λ j h. w .before (rowWords * i + j) (omega arith));
-  past = λ i l. w .after i (omega arith);
-}
+-- the words of a set, stored in row n
+module _ (n : ℕ) (xs ws : List ℕ) (room : rowWords * suc n ≤ length xs) (long : length ws ≡ rowWords) where
+  row-parts : sets xs (rowWords * n) ws ≡ take (rowWords * n) xs ++ (ws ++ drop rowWords (drop (rowWords * n) xs))
+  row-parts = sets-eq ws xs (rowWords * n) (omega arith) ∙ rw (long, drop-drop) (append-assoc (take (rowWords * n) xs) ws (drop (rowWords * n + rowWords) xs))
+
+  row-stored : Stored rowWords rulesAt n (setOf ws) xs (sets xs (rowWords * n) ws)
+  row-stored = record {
+    long = length-sets xs (rowWords * n) ws;
+    here = rules-words _ n ws (omega arith) (λ j l. rw row-parts (put-in xs ws (rowWords * n) rowWords (omega arith) long j l));
+    kept = λ i l. rules-same _ xs i (λ j k. rw row-parts (put-before xs ws (rowWords * n) rowWords (omega arith) long (rowWords * i + j) (omega arith)));
+    past = λ i l.
+        let p : rowWords * n + (rowWords + (i - rowWords * suc n)) ≡ i = omega arith in
+        rw row-parts (rw p at (put-after xs ws (rowWords * n) rowWords (omega arith) long (i - rowWords * suc n)));
+  }
+
+  pub stored-words : {ys : List ℕ} → ys ≡ storedRow xs n ws → Stored rowWords rulesAt n (setOf ws) xs ys
+  stored-words e = subst⁻¹ (Stored rowWords rulesAt n (setOf ws) xs) (e ∙ stored-row xs n ws (omega arith) long) row-stored
 
 -- whether a row's words are those of a set
 pub same-row : {t : Bool} (xs ws : List ℕ) (i : ℕ) → t ≡ (eqb (length (rowOf xs i)) (length ws) && eqb (setOf (rowOf xs i)) (setOf ws))
@@ -57,7 +68,7 @@ stored-all {n = n} P st old new i l =
     elim (decLt i n) [ yes h ↦ rw (st .kept i h) (old i h) | no g ↦ let e : i ≡ n = omega arith in rw (e, st .here) new ]
 
 -- room for one row more
-pub room-next : {lent n : ℕ} {t : Others} → Room lent n t → n < lent → Room (suc n) (suc n) t
+pub room-next : {lent n : ℕ} {t : Others} → RowsUsed lent n t → n < lent → RowsUsed (suc n) (suc n) t
 room-next room h = record {
   used = omega arith;
   few = omega (arith, room .few);
@@ -153,7 +164,7 @@ module _ {r : Rules} {lent : ℕ} where
     filling-fits le begin = le
     filling-fits le (next f p) = place-fits (filling-fits le f) p
 
-    pub filling-room : {c n : ℕ} {row : List ℕ} {t : Others} → Room lent n₀ t₀ → Filling r lent s via row₀ n₀ t₀ c row n t → Room lent n t
+    pub filling-room : {c n : ℕ} {row : List ℕ} {t : Others} → RowsUsed lent n₀ t₀ → Filling r lent s via row₀ n₀ t₀ c row n t → RowsUsed lent n t
     filling-room room f =
         let k = filling-keeps f in
         record {

@@ -23,8 +23,9 @@ use Rattle.meaning.proofs.Congruent.{congruence}
 use Rattle.meaning.proofs.Unique.{rows-or-more}
 use Rattle.meaning.proofs.Build.{Filling as Filled-to, Built, Via, Put, Row, place-root, place-none, place-there, place-full, place-made, built-start, built-fill, built-via, built-next, built-finish}
 use Rattle.build.specs.Sets.{Short}
-use Rattle.build.specs.Promise.{numberOf, valueOf, zeros, zeroed, Builds, accepted, no-room}
-use Rattle.build.specs.Course.{Others, fiveOf, numberAt, columnsOf, Stored, Added, Leads, Room, there, made, full, Place, root, none, some, Filling, begin, next, RowFilled, whole, short, Sane, RowBuilt, rowOf, Building, start, grow, AllFilled, all, stuck, zeroOthers, Makes, rows, empty, refused}
+use Rattle.lent.specs.Lent.{zeros, zeroed}
+use Rattle.build.specs.Promise.{numberOf, valueOf, Builds, accepted, no-room}
+use Rattle.build.specs.Course.{Others, fiveOf, numberAt, columnsOf, Stored, Added, Leads, RowsUsed, there, made, full, Place, root, none, some, Filling, begin, next, RowFilled, whole, short, Sane, RowBuilt, rowOf, Building, start, grow, AllFilled, all, stuck, zeroOthers, Makes, rows, empty, refused}
 use Rattle.build.specs.declared.Built.{Built as Answer}
 use Rattle.build.specs.declared.Placed.the-variants as placed
 use Rattle.build.specs.declared.Filled.the-variants as filled
@@ -96,12 +97,12 @@ module _ {r : Rules} (goto via row : List ℕ) {s c : ℕ} (t : Others) {ts : Li
             (put-entry row c (length ts) wide) (added-row a);
       }
 
-  placed-full : {lent : ℕ} {u : Others} → Room lent (length ts) t → Place r lent s c (getD via c 0) (length ts) t u placed.Full → MoreThan (Same r) lent
+  placed-full : {lent : ℕ} {u : Others} → RowsUsed lent (length ts) t → Place r lent s c (getD via c 0) (length ts) t u placed.Full → MoreThan (Same r) lent
   placed-full {lent} room (some wet (full new h)) =
       let e : length ts ≡ lent = omega (arith, room .used) in
       subst (MoreThan (Same r)) e (place-full f l byte wet (λ i k (x, y, z). new i k (record { held-is = x; live-is = y; fall-is = z })))
 
-module _ {r : Rules} {goto via row₀ : List ℕ} {lent s n₀ : ℕ} {t₀ : Others} (room : Room lent n₀ t₀) (hs : s < n₀) (long : length row₀ ≡ 256)
+module _ {r : Rules} {goto via row₀ : List ℕ} {lent s n₀ : ℕ} {t₀ : Others} (room : RowsUsed lent n₀ t₀) (hs : s < n₀) (long : length row₀ ≡ 256)
     (x : InRow r goto via row₀ s 0 n₀ t₀) where
   in-row : {c n : ℕ} {row : List ℕ} {t : Others} → c ≤ 256 → Filling r lent s via row₀ n₀ t₀ c row n t → InRow r goto via row s c n t
   in-row h begin = x
@@ -119,7 +120,7 @@ module _ {r : Rules} {goto via row₀ : List ℕ} {lent s n₀ : ℕ} {t₀ : Ot
       let k = in-row (omega arith) f in
       let up = filling-keeps f .grown in
       placed-full goto via row t (k .is) (omega (arith, k .count)) h (omega (arith, filling-long f))
-      (subst⁻¹ (λ (i : ℕ). Room lent i t) (k .count) (filling-room room f))
+      (subst⁻¹ (λ (i : ℕ). RowsUsed lent i t) (k .count) (filling-room room f))
       (subst⁻¹ (λ (i : ℕ). Place r lent s c (getD via c 0) i t u placed.Full) (k .count) p)
 
 -- ---- row after row

@@ -6,8 +6,8 @@ use Prim.Native.Nat.{ℕ}
 use native.Mathlib.Omega.{arith}
 use lib.ListN.{length, replicate, length-replicate}
 use Rattle.meaning.specs.Rules.{Rules}
-use Rattle.build.specs.Promise.{zeros}
-use Rattle.build.specs.Course.{Others, others, Sane, AllFilled, rowsLent, zeroOthers, Makes, rows, empty, refused}
+use Rattle.lent.specs.Lent.{zeros}
+use Rattle.build.specs.Course.{Others, Sane, AllFilled, rowsLent, zeroOthers, Makes, rows, empty, refused}
 use Rattle.build.proofs.Laws.{all-zero}
 use Rattle.build.specs.declared.Filled.the-variants as filled
 use Rattle.build.specs.declared.Built.the-variants as built
@@ -30,24 +30,27 @@ zero-sane goto t ne =
       last = λ c h q. omega (arith, all-zero (length goto) c);
     }
 
+-- every entry is 0, as `zero_all` promises
+abbrev pub AllZero : List ℕ → Others → List ℕ → Others → Type 0
+AllZero goto t g w = (g ≡ zeros goto) × (w .fall ≡ zeros (t .fall)) × (w .held ≡ zeros (t .held)) × (w .live ≡ zeros (t .live)) × (w .out ≡ zeros (t .out))
+
+others-zero : (goto : List ℕ) {g : List ℕ} (t : Others) {w : Others} → AllZero goto t g w → w ≡ zeroOthers t
+others-zero goto t z = rw (← z .1, ← z .2, ← z .3, ← z .4)
+
 -- the same of what the code has, which equals it
-module _ {lent : ℕ} (goto : List ℕ) {g : List ℕ} (t : Others) {w : Others} (e : lent ≡ rowsLent goto t) (q : g ≡ zeros goto) (p : w ≡ zeroOthers t) where
+module _ {lent : ℕ} (goto : List ℕ) {g : List ℕ} (t : Others) {w : Others} (e : lent ≡ rowsLent goto t) (z : AllZero goto t g w) where
   pub sane-at : lent ≢ 0 → Sane lent 1 g w
-  sane-at ne = rw (e, q, p) (zero-sane goto t (λ z. ne (e ∙ z)))
+  sane-at ne = rw (e, z .0, others-zero goto t z) (zero-sane goto t (λ n. ne (e ∙ n)))
 
   pub empty-at : (r : Rules) → lent ≡ 0 → Makes r goto t g w (built.NoRoom 0)
-  empty-at r z = rw (q, p) (empty (sym e ∙ z))
+  empty-at r n = rw (z .0, others-zero goto t z) (empty (sym e ∙ n))
 
   pub rows-at : {r : Rules} {n : ℕ} {g' : List ℕ} {u : Others} → lent ≢ 0 → AllFilled r lent g w g' u (filled.Rows n) → Makes r goto t g' u (built.Rows n)
-  rows-at ne f = rows (λ z. ne (e ∙ z)) (rw (e, q, p) at f)
+  rows-at ne f = rows (λ n. ne (e ∙ n)) (rw (e, z .0, others-zero goto t z) at f)
 
-  pub refused-at : {r : Rules} {g' g2 : List ℕ} {u w2 : Others} → lent ≢ 0 → AllFilled r lent g w g' u filled.Full → g2 ≡ zeros goto → w2 ≡ zeroOthers t → Makes r goto t g2 w2 (built.NoRoom lent)
-  refused-at ne f q2 p2 = rw (q2, p2, e) (refused (λ z. ne (e ∙ z)) (rw (e, q, p) at f))
+  pub refused-at : {r : Rules} {g' g2 : List ℕ} {u w2 : Others} → lent ≢ 0 → AllFilled r lent g w g' u filled.Full → AllZero goto t g2 w2 → Makes r goto t g2 w2 (built.NoRoom lent)
+  refused-at ne f z2 = rw (z2 .0, others-zero goto t z2, e) (refused (λ n. ne (e ∙ n)) (rw (e, z .0, others-zero goto t z) at f))
 
 -- as many zeros
-pub zeros-as : {n m : ℕ} → n ≡ m → _≡_ {A = List ℕ} (replicate n 0) (replicate m 0)
-zeros-as e = rw e
-
-pub others-as : {f f' h h' l l' o o' : ℕ} → f ≡ f' → h ≡ h' → l ≡ l' → o ≡ o'
-    → others (replicate f 0) (replicate h 0) (replicate l 0) (replicate o 0) ≡ others (replicate f' 0) (replicate h' 0) (replicate l' 0) (replicate o' 0)
-others-as p q r s = rw (p, q, r, s)
+pub zeros-as : {n m : ℕ} {xs : List ℕ} → xs ≡ replicate n 0 → n ≡ m → xs ≡ replicate m 0
+zeros-as e q = e ∙ rw q

@@ -4,16 +4,16 @@ use Prim.Native.Nat.{ℕ}
 use Rattle.rows.specs.Rows.{ByteText}
 use Rattle.meaning.specs.Tables.{Five}
 use Rattle.book.specs.Content.{Content}
-use Rattle.book.specs.Format.{means, meaningOf}
+use Rattle.format.specs.Format.{means, meaningOf}
 use Rattle.book.specs.Apart.{Apart, rulesBefore}
 use Rattle.build.specs.Promise.{numberOf, valueOf, Builds}
-use Rattle.build.specs.Exact.{Call, OfWords}
+use Rattle.build.specs.Exact.{BuildCall, OfWords}
 
 -- what a call answers and leaves is what was promised for the rules by the numbers, and nothing else is
-pub record BuiltAsBefore (c : Call) (a : Content) : Type 0 where
+pub record BuiltAsBefore (c : BuildCall) (a : Content) : Type 0 where
   pub kept : Builds (rulesBefore a) (c .old) (c .new) (numberOf (c .answer)) (valueOf (c .answer))
   pub only : {b : Five} {i v : ℕ} → Builds (rulesBefore a) (c .old) b i v → OfWords b → OfWords (c .new)
       → (i ≡ numberOf (c .answer)) × (v ≡ valueOf (c .answer)) × (b ≡ c .new)
 
 abbrev pub TablesAsBefore : Type 0
-TablesAsBefore = (c : Call) → ByteText (c .bytes) → (a : Content) → meaningOf (c .bytes) ≡ means a → Apart (a .pictures) → BuiltAsBefore c a
+TablesAsBefore = (c : BuildCall) → ByteText (c .bytes) → (a : Content) → meaningOf (c .bytes) ≡ means a → Apart (a .pictures) → BuiltAsBefore c a

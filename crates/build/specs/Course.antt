@@ -11,7 +11,7 @@ use Rattle.meaning.specs.Rules.{Rules}
 use Rattle.meaning.specs.Tables.{noEntry, Columns, Five, gotoAt}
 use Rattle.meaning.specs.Step.{nextLive, finished, Follows}
 use Rattle.book.specs.Limits.{mostSymbols, mostRows}
-use Rattle.build.specs.Promise.{five, lent, zeros}
+use Rattle.lent.specs.Lent.{five, lent, zeros}
 use Rattle.build.specs.declared.Placed.{Placed}
 use Rattle.build.specs.declared.Placed.the-variants as placed
 use Rattle.build.specs.declared.Filled.{Filled}
@@ -143,7 +143,7 @@ pub record Descends (goto fall : List ℕ) (row : ℕ) : Type 0 where
   pub last : (c : ℕ) → c < 256 → getD goto c 0 ≢ noEntry
 
 -- n rows are used of those lent
-pub record Room (lent n : ℕ) (t : Others) : Type 0 where
+pub record RowsUsed (lent n : ℕ) (t : Others) : Type 0 where
   pub used : n ≤ lent
   pub few : lent ≤ mostRows
   pub fall-room : lent ≤ length (t .fall)
@@ -153,7 +153,7 @@ pub record Room (lent n : ℕ) (t : Others) : Type 0 where
 
 -- row s is in hand: no row holds more than one byte more than it
 pub record InHand (lent n s : ℕ) (t : Others) : Type 0 where
-  pub room : Room lent n t
+  pub room : RowsUsed lent n t
   pub row : s < n
   pub short-held : getD (t .held) s 0 ≤ mostSymbols
   pub rising : Rising (t .held) n (getD (t .held) s 0 + 1)
@@ -170,7 +170,7 @@ IsEntry n e = (e ≡ noEntry) ⊎ (e < n)
 
 -- what the code of a build relies on
 pub record Sane (lent n : ℕ) (goto : List ℕ) (t : Others) : Type 0 where
-  pub room : Room lent n t
+  pub room : RowsUsed lent n t
   pub rows : RowsOk n t
   pub goto-room : 256 * lent ≤ length goto
   pub entries : (j : ℕ) → IsEntry n (getD goto j 0)

@@ -9,13 +9,14 @@ use Rattle.meaning.specs.Rules.{Rules}
 use Rattle.meaning.specs.Standing.{Same}
 use Rattle.meaning.specs.Tables.{Five}
 use Rattle.book.specs.Content.{Content}
-use Rattle.book.specs.Format.{means, meaningOf}
+use Rattle.format.specs.Format.{means, meaningOf}
 use Rattle.book.specs.Meant.{rulesOf}
-use Rattle.build.specs.Promise.{numberOf, valueOf, lent, Promise}
+use Rattle.lent.specs.Lent.{lent}
+use Rattle.build.specs.Promise.{numberOf, valueOf, Promise}
 use Rattle.build.specs.declared.Built.{Built}
 
 -- a call of build that keeps its promise
-pub record Call : Type 0 where
+pub record BuildCall : Type 0 where
   pub bytes : List ℕ
   pub old : Five
   pub new : Five
@@ -34,13 +35,13 @@ pub record Fitting (bytes : List ℕ) (n : ℕ) : Type 0 where
   pub rows : AtMost (Same (rulesOf content)) n
 
 -- 10 is given exactly when more rows are needed than lent, with the rows lent; 0 exactly when they suffice
-pub record Exactly (c : Call) : Type 0 where
+pub record Exactly (c : BuildCall) : Type 0 where
   pub no-room : (numberOf (c .answer) ≡ 10) ↔ Crowded (c .bytes) (lent (c .old))
   pub room-value : numberOf (c .answer) ≡ 10 → valueOf (c .answer) ≡ lent (c .old)
   pub accepted : (numberOf (c .answer) ≡ 0) ↔ Fitting (c .bytes) (lent (c .old))
 
 abbrev pub RoomExactly : Type 0
-RoomExactly = (c : Call) → Exactly c
+RoomExactly = (c : BuildCall) → Exactly c
 
 -- just one of the two
 pub record JustOne (r : Rules) (n : ℕ) : Type 0 where
@@ -57,4 +58,4 @@ pub record OfWords (b : Five) : Type 0 where
 
 -- two answers and two sets of buffers that keep the promise are equal
 abbrev pub OneOutcome : Type 0
-OneOutcome = (c d : Call) → c .bytes ≡ d .bytes → c .old ≡ d .old → OfWords (c .new) → OfWords (d .new) → (c .answer ≡ d .answer) × (c .new ≡ d .new)
+OneOutcome = (c d : BuildCall) → c .bytes ≡ d .bytes → c .old ≡ d .old → OfWords (c .new) → OfWords (d .new) → (c .answer ≡ d .answer) × (c .new ≡ d .new)

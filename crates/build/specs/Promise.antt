@@ -1,18 +1,16 @@
 -- What a build promises, in words of the book's meaning, its rules and its rows. Assumes nothing.
-use mathlib.Core.Path.{_≡_}
 use mathlib.Core.List.{List}
 use Prim.Native.Nat.{ℕ, _≤_}
-use lib.ListN.{length, replicate}
 use Rattle.rows.specs.Rows.{MoreThan}
 use Rattle.meaning.specs.Rules.{Rules}
 use Rattle.meaning.specs.Standing.{Same}
 use Rattle.meaning.specs.Tables.{Five, Tables}
-use Rattle.book.specs.declared.Refusal.{Refusal}
+use Rattle.format.specs.declared.Refusal.{Refusal}
 use Rattle.book.specs.Content.{Content}
-use Rattle.book.specs.Answers.{number, value}
-use Rattle.book.specs.Format.{Meaning, means, refused, meaningOf}
+use Rattle.format.specs.Answers.{number, value}
+use Rattle.format.specs.Format.{Meaning, means, refused, meaningOf}
 use Rattle.book.specs.Meant.{rulesOf}
-use Rattle.build.specs.Lent.{lentOf}
+use Rattle.lent.specs.Lent.{lent, zeroed, AsLong}
 use Rattle.build.specs.declared.Built.{Built}
 use Rattle.build.specs.declared.Built.the-variants.{Rows, NoRoom, Refused}
 
@@ -27,30 +25,6 @@ abbrev pub valueOf : Built → ℕ
 valueOf (Rows n) = n
 valueOf (NoRoom n) = n
 valueOf (Refused why) = value why
-
--- ---- the five buffers
-
-abbrev pub five : List ℕ → List ℕ → List ℕ → List ℕ → List ℕ → Five
-five g f h l o = record { goto = g; fall = f; held = h; live = l; out = o }
-
--- the rows lent
-abbrev pub lent : Five → ℕ
-lent b = lentOf (length (b .goto)) (length (b .fall)) (length (b .held)) (length (b .live)) (length (b .out))
-
--- every entry 0
-abbrev pub zeros : List ℕ → List ℕ
-zeros xs = replicate (length xs) 0
-
-abbrev pub zeroed : Five → Five
-zeroed b = five (zeros (b .goto)) (zeros (b .fall)) (zeros (b .held)) (zeros (b .live)) (zeros (b .out))
-
--- each is as long as it was
-pub record AsLong (old b : Five) : Type 0 where
-  pub goto-long : length (b .goto) ≡ length (old .goto)
-  pub fall-long : length (b .fall) ≡ length (old .fall)
-  pub held-long : length (b .held) ≡ length (old .held)
-  pub live-long : length (b .live) ≡ length (old .live)
-  pub out-long : length (b .out) ≡ length (old .out)
 
 -- ---- the promise
 

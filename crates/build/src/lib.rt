@@ -1,11 +1,11 @@
 // The builder of tables: from the bytes of a rule book to the five tables, one row of 256 entries at a time.
 
-use book::Answer;
 use book::Book;
 use book::Pictures;
-use book::Refusal;
-use sets::Set;
-use sets::WORDS;
+use format::Answer;
+use format::Refusal;
+use words::Set;
+use words::WORDS;
 ghost use mathlib.Core.Path.{_≡_};
 ghost use Prim.Native.Nat.{ℕ, suc, _+_, _*_, _%_, _<_, _≤_, min};
 ghost use lib.ListN.{length, getD};
@@ -17,10 +17,12 @@ ghost use lib.Dec.{eqb};
 ghost use Rattle.meaning.specs.Step.{goesOn, nextLive};
 ghost use Rattle.book.specs.Limits.{mostRows};
 ghost use Rattle.book.specs.Meant.{rulesIn, rulesHeld};
-ghost use Rattle.build.specs.Lent.{lentOf};
 ghost use Rattle.build.specs.Sets.{Within, Joins, IsWord, endsIn, endedIn};
-ghost use Rattle.build.specs.Course.{Stored, Added, Leads, Found, Rising, chainOf, chainAt, Chains, Descends, Room, InHand, RowOf, Place, RowFilled, Sane, RowBuilt, AllFilled, Makes, zeroOthers, others};
-ghost use Rattle.build.specs.Promise.{numberOf, valueOf, five, zeros, Promise};
+ghost use Rattle.build.specs.Course.{Added, Leads, Found, Rising, chainOf, chainAt, Chains, Descends, RowsUsed};
+ghost use Rattle.build.specs.Course.{InHand, RowOf, Place, RowFilled, Sane, RowBuilt, AllFilled, Makes, others};
+ghost use Rattle.moments.specs.Moments.{was, left};
+ghost use Rattle.lent.specs.Lent.{five};
+ghost use Rattle.build.specs.Promise.{numberOf, valueOf, Promise};
 ghost use Rattle.build.specs.declared.Placed.the-variants.{Entry};
 ghost use Rattle.build.specs.declared.Filled.the-variants.{Rows as Whole};
 
@@ -71,10 +73,10 @@ impl Built {
 
 // Whether the byte fits the symbol and rule k is of the set (any is where nothing is held).
 fn joins(pictures: &Pictures, live: u64, held: usize, k: u32, symbol: u16, byte: u8) -> bool
-    ensures { λ r. ⌜ Joins (now (pictures .entry)) live held k symbol byte r ⌝ }
+    ensures { λ r. ⌜ Joins (was pictures) live held k symbol byte r ⌝ }
 {
     if held != 0 {
-        if !sets::has(live, k) {
+        if !bits::has(live, k) {
             return false;
         }
     }
@@ -99,7 +101,8 @@ fn extended_word(
     byte: u8,
 ) -> u64
     requires { ⌜ Within (now lengths) rules × (64 * i < rules) ⌝ }
-    ensures { λ r. ⌜ ((s : ℕ) → IsWord s i live → r ≡ wordWhere rules (goesOn (rulesIn (now (symbols .entry)) (now (lengths .entry)) (now (pictures .entry)) rules) held s byte) i) ⌝ }
+    ensures { λ r. ⌜ ((s : ℕ) → IsWord s i live
+        → r ≡ wordWhere rules (goesOn (rulesIn (was symbols) (was lengths) (was pictures) rules) held s byte) i) ⌝ }
 {
     let base = 64 * i;
     let many = least(64, rules - base);
@@ -110,7 +113,7 @@ fn extended_word(
         if held < lengths[k] as usize {
             let symbol = symbols[Book::SYMBOLS * k + held];
             if joins(pictures, live, held, bit as u32, symbol, byte) {
-                set = sets::with(set, bit as u32);
+                set = bits::with(set, bit as u32);
             }
         }
         bit += 1;
@@ -129,9 +132,10 @@ fn extended(
     byte: u8,
 ) -> Set
     requires { ⌜ Within (now lengths) rules × (length (now live) ≡ rowWords) ⌝ }
-    ensures { λ r. ⌜ (setOf r ≡ nextLive (rulesIn (now (symbols .entry)) (now (lengths .entry)) (now (pictures .entry)) rules) held (setOf (now (live .entry))) byte) × (length r ≡ rowWords) ⌝ }
+    ensures { λ r. ⌜ (setOf r ≡ nextLive (rulesIn (was symbols) (was lengths) (was pictures) rules) held (setOf (was live)) byte)
+        × (length r ≡ rowWords) ⌝ }
 {
-    let mut set = sets::none();
+    let mut set = words::none();
     let mut i: usize = 0;
     while 64 * i < rules {
         set[i] = extended_word(symbols, lengths, pictures, rules, held, i, live[i], byte);
@@ -143,7 +147,7 @@ fn extended(
 // Word i of what `ended` answers, where `set` is word i of the set.
 fn ended_word(lengths: &[u8; Book::RULES], rules: usize, held: usize, i: usize, set: u64) -> u64
     requires { ⌜ Within (now lengths) rules × (64 * i < rules) ⌝ }
-    ensures { λ r. ⌜ ((s : ℕ) → IsWord s i set → r ≡ wordWhere rules (endsIn (now (lengths .entry)) held s) i) ⌝ }
+    ensures { λ r. ⌜ ((s : ℕ) → IsWord s i set → r ≡ wordWhere rules (endsIn (was lengths) held s) i) ⌝ }
 {
     let base = 64 * i;
     let many = least(64, rules - base);
@@ -151,8 +155,8 @@ fn ended_word(lengths: &[u8; Book::RULES], rules: usize, held: usize, i: usize, 
     let mut bit: usize = 0;
     while bit < many {
         if lengths[base + bit] as usize == held {
-            if sets::has(set, bit as u32) {
-                some = sets::with(some, bit as u32);
+            if bits::has(set, bit as u32) {
+                some = bits::with(some, bit as u32);
             }
         }
         bit += 1;
@@ -163,9 +167,9 @@ fn ended_word(lengths: &[u8; Book::RULES], rules: usize, held: usize, i: usize, 
 // The rules of the set that have just `held` symbols.
 fn ended(lengths: &[u8; Book::RULES], rules: usize, held: usize, set: &[u64]) -> Set
     requires { ⌜ Within (now lengths) rules × (length (now set) ≡ rowWords) ⌝ }
-    ensures { λ r. ⌜ (setOf r ≡ endedIn (now (lengths .entry)) rules held (setOf (now (set .entry)))) × (length r ≡ rowWords) ⌝ }
+    ensures { λ r. ⌜ (setOf r ≡ endedIn (was lengths) rules held (setOf (was set))) × (length r ≡ rowWords) ⌝ }
 {
-    let mut some = sets::none();
+    let mut some = words::none();
     let mut i: usize = 0;
     while 64 * i < rules {
         some[i] = ended_word(lengths, rules, held, i, set[i]);
@@ -176,7 +180,7 @@ fn ended(lengths: &[u8; Book::RULES], rules: usize, held: usize, set: &[u64]) ->
 
 // The remainder of a set, as one number, by 4,093: the words are its digits to the base 2 ^ 64, which leaves 3,888.
 fn remainder(set: &[u64]) -> usize
-    ensures { λ r. ⌜ r ≡ setOf (now (set .entry)) % 4093 ⌝ }
+    ensures { λ r. ⌜ r ≡ setOf (was set) % 4093 ⌝ }
 {
     let mut rest: u64 = 0;
     let mut left = set.len();
@@ -189,7 +193,7 @@ fn remainder(set: &[u64]) -> usize
 
 // The chain of the rows with this fall and live set: both count, so that a chain is short where many rows have one fall or one live set.
 fn chain(f: u16, l: &[u64]) -> usize
-    ensures { λ r. ⌜ (r ≡ chainOf f (setOf (now (l .entry)))) × (r < mostRows) ⌝ }
+    ensures { λ r. ⌜ (r ≡ chainOf f (setOf (was l))) × (r < mostRows) ⌝ }
 {
     (f as usize + remainder(l)) % Book::ROWS
 }
@@ -197,10 +201,10 @@ fn chain(f: u16, l: &[u64]) -> usize
 // Whether row i has this live set and this fall.
 fn is_key(fall: &[u16], live: &[u64], i: usize, l: &[u64], f: u16) -> bool
     requires { ⌜ (i < length (now fall)) × (rowWords * suc i ≤ length (now live)) × (length (now l) ≡ rowWords) ⌝ }
-    ensures { λ r. ⌜ r ≡ (eqb (rulesAt (now (live .entry)) i) (setOf (now (l .entry))) && eqb (getD (now (fall .entry)) i 0) f) ⌝ }
+    ensures { λ r. ⌜ r ≡ (eqb (rulesAt (was live) i) (setOf (was l)) && eqb (getD (was fall) i 0) f) ⌝ }
 {
     let start = WORDS * i;
-    if !sets::same(&live[start..start + WORDS], l) {
+    if !words::same(&live[start..start + WORDS], l) {
         return false;
     }
     fall[i] == f
@@ -218,8 +222,9 @@ fn find_row(
     l: &[u64],
     f: u16,
 ) -> usize
-    requires { ⌜ (n ≤ length (now fall)) × (n ≤ length (now held)) × (rowWords * n ≤ length (now live)) × (n ≤ mostRows) × (length (now l) ≡ rowWords) ⌝ ∗ ⌜ Rising (now held) n h ⌝ ∗ ⌜ Chains (now first) (now older) (chainAt (now fall) (now live)) n ⌝ }
-    ensures { λ r. ⌜ Found (now (held .entry)) (now (live .entry)) (now (fall .entry)) n h (setOf (now (l .entry))) f r ⌝ }
+    requires { ⌜ (n ≤ length (now fall)) × (n ≤ length (now held)) × (rowWords * n ≤ length (now live)) × (n ≤ mostRows)
+        × (length (now l) ≡ rowWords) ⌝ ∗ ⌜ Rising (now held) n h ⌝ ∗ ⌜ Chains (now first) (now older) (chainAt (now fall) (now live)) n ⌝ }
+    ensures { λ r. ⌜ Found (was held) (was live) (was fall) n h (setOf (was l)) f r ⌝ }
 {
     let mut i = first[chain(f, l)] as usize;
     while i != 0 {
@@ -237,7 +242,7 @@ fn find_row(
 // The row that a byte leads to from `row`, by falls.
 fn follow(goto: &[u16], fall: &[u16], row: u16, byte: usize) -> u16
     requires { ⌜ Descends (now goto) (now fall) row ⌝ ∗ ⌜ byte < 256 ⌝ }
-    ensures { λ r. ⌜ Leads (now (goto .entry)) (now (fall .entry)) byte row r ⌝ }
+    ensures { λ r. ⌜ Leads (was goto) (was fall) byte row r ⌝ }
 {
     let mut r = row as usize;
     while goto[256 * r + byte] == NO_ENTRY {
@@ -249,7 +254,7 @@ fn follow(goto: &[u16], fall: &[u16], row: u16, byte: usize) -> u16
 // The complete row of `row`: for each byte the row that it leads to.
 fn via_row(goto: &[u16], fall: &[u16], row: u16) -> [u16; 256]
     requires { ⌜ Descends (now goto) (now fall) row ⌝ }
-    ensures { λ r. ⌜ ((c : ℕ) → c < 256 → Leads (now (goto .entry)) (now (fall .entry)) c row (getD r c 0)) ⌝ }
+    ensures { λ r. ⌜ ((c : ℕ) → c < 256 → Leads (was goto) (was fall) c row (getD r c 0)) ⌝ }
 {
     let mut via = [0u16; 256];
     let mut c = 0;
@@ -258,19 +263,6 @@ fn via_row(goto: &[u16], fall: &[u16], row: u16) -> [u16; 256]
         c += 1;
     }
     via
-}
-
-// The set in row n of a table.
-fn store(table: &mut [u64], n: usize, set: &[u64])
-    requires { ⌜ (rowWords * suc n ≤ length (now table)) × (length (now set) ≡ rowWords) ⌝ }
-    ensures { λ _. ⌜ Stored rowWords rulesAt n (setOf (now (set .entry))) (now (table .entry)) (now (table .exit)) ⌝ }
-{
-    let start = WORDS * n;
-    let mut i: usize = 0;
-    while i < WORDS {
-        table[start + i] = set[i];
-        i += 1;
-    }
 }
 
 // What ends in a row with this held length and live set: the rules of the set that have so many symbols, and what ends in the row that it falls to.
@@ -282,12 +274,14 @@ fn ends(
     out: &[u64],
     below: usize,
 ) -> Set
-    requires { ⌜ Within (now lengths) rules × (length (now set) ≡ rowWords) × (below < mostRows) × (rowWords * suc below ≤ length (now out)) ⌝ }
-    ensures { λ r. ⌜ (setOf r ≡ bitOr (endedIn (now (lengths .entry)) rules held (setOf (now (set .entry)))) (rulesAt (now (out .entry)) below)) × (length r ≡ rowWords) ⌝ }
+    requires { ⌜ Within (now lengths) rules × (length (now set) ≡ rowWords) × (below < mostRows)
+        × (rowWords * suc below ≤ length (now out)) ⌝ }
+    ensures { λ r. ⌜ (setOf r ≡ bitOr (endedIn (was lengths) rules held (setOf (was set))) (rulesAt (was out) below))
+        × (length r ≡ rowWords) ⌝ }
 {
     let mut all = ended(lengths, rules, held, set);
     let start = WORDS * below;
-    sets::unite(&mut all, &out[start..start + WORDS]);
+    words::unite(&mut all, &out[start..start + WORDS]);
     all
 }
 
@@ -304,14 +298,16 @@ fn add_row(
     l: &[u64],
     f: u16,
 )
-    requires { ⌜ Within (now lengths) rules × (length (now l) ≡ rowWords) × (f < n) ⌝ ∗ ⌜ Room (suc n) (suc n) (others (now fall) (now held) (now live) (now out)) ⌝ }
-    ensures { λ _. ⌜ Added (endedIn (now (lengths .entry)) rules h (setOf (now (l .entry)))) n h (setOf (now (l .entry))) f (others (now (fall .entry)) (now (held .entry)) (now (live .entry)) (now (out .entry))) (others (now (fall .exit)) (now (held .exit)) (now (live .exit)) (now (out .exit))) ⌝ }
+    requires { ⌜ Within (now lengths) rules × (length (now l) ≡ rowWords) × (f < n) ⌝
+        ∗ ⌜ RowsUsed (suc n) (suc n) (others (now fall) (now held) (now live) (now out)) ⌝ }
+    ensures { λ _. ⌜ Added (endedIn (was lengths) rules h (setOf (was l))) n h (setOf (was l)) f
+        (others (was fall) (was held) (was live) (was out)) (others (left fall) (left held) (left live) (left out)) ⌝ }
 {
     let all = ends(lengths, rules, h as usize, l, out, f as usize);
     fall[n] = f;
     held[n] = h;
-    store(live, n, l);
-    store(out, n, &all);
+    lent::store(live, n, l);
+    lent::store(out, n, &all);
 }
 
 // The row with these three numbers: one there is, or a new one at n.
@@ -330,8 +326,12 @@ fn row_of(
     l: &[u64],
     f: u16,
 ) -> Placed
-    requires { ⌜ Within (now lengths) rules × (length (now l) ≡ rowWords) ⌝ ∗ ⌜ Room lent n (others (now fall) (now held) (now live) (now out)) ⌝ ∗ ⌜ f < n ⌝ ∗ ⌜ Rising (now held) n h ⌝ ∗ ⌜ Chains (now first) (now older) (chainAt (now fall) (now live)) n ⌝ }
-    ensures { λ r. ⌜ RowOf (endedIn (now (lengths .entry)) rules h (setOf (now (l .entry)))) lent n h (setOf (now (l .entry))) f (others (now (fall .entry)) (now (held .entry)) (now (live .entry)) (now (out .entry))) (others (now (fall .exit)) (now (held .exit)) (now (live .exit)) (now (out .exit))) r ⌝ ∗ ⌜ ((e m : ℕ) → r ≡ Entry e m → Chains (now (first .exit)) (now (older .exit)) (chainAt (now (fall .exit)) (now (live .exit))) m) ⌝ }
+    requires { ⌜ Within (now lengths) rules × (length (now l) ≡ rowWords) ⌝
+        ∗ ⌜ RowsUsed lent n (others (now fall) (now held) (now live) (now out)) ⌝ ∗ ⌜ f < n ⌝ ∗ ⌜ Rising (now held) n h ⌝
+        ∗ ⌜ Chains (now first) (now older) (chainAt (now fall) (now live)) n ⌝ }
+    ensures { λ r. ⌜ RowOf (endedIn (was lengths) rules h (setOf (was l))) lent n h (setOf (was l)) f
+        (others (was fall) (was held) (was live) (was out)) (others (left fall) (left held) (left live) (left out)) r ⌝
+        ∗ ⌜ ((e m : ℕ) → r ≡ Entry e m → Chains (left first) (left older) (chainAt (left fall) (left live)) m) ⌝ }
 {
     let i = find_row(fall, held, live, first, older, n, h, l, f);
     if i < n {
@@ -365,8 +365,11 @@ fn place(
     byte: u8,
     via: u16,
 ) -> Placed
-    requires { ⌜ Within (now lengths) rules ⌝ ∗ ⌜ InHand lent n s (others (now fall) (now held) (now live) (now out)) ⌝ ∗ ⌜ via < n ⌝ ∗ ⌜ Chains (now first) (now older) (chainAt (now fall) (now live)) n ⌝ }
-    ensures { λ r. ⌜ Place (rulesIn (now (symbols .entry)) (now (lengths .entry)) (now (pictures .entry)) rules) lent s byte via n (others (now (fall .entry)) (now (held .entry)) (now (live .entry)) (now (out .entry))) (others (now (fall .exit)) (now (held .exit)) (now (live .exit)) (now (out .exit))) r ⌝ ∗ ⌜ ((e m : ℕ) → r ≡ Entry e m → Chains (now (first .exit)) (now (older .exit)) (chainAt (now (fall .exit)) (now (live .exit))) m) ⌝ }
+    requires { ⌜ Within (now lengths) rules ⌝ ∗ ⌜ InHand lent n s (others (now fall) (now held) (now live) (now out)) ⌝ ∗ ⌜ via < n ⌝
+        ∗ ⌜ Chains (now first) (now older) (chainAt (now fall) (now live)) n ⌝ }
+    ensures { λ r. ⌜ Place (rulesIn (was symbols) (was lengths) (was pictures) rules) lent s byte via n
+        (others (was fall) (was held) (was live) (was out)) (others (left fall) (left held) (left live) (left out)) r ⌝
+        ∗ ⌜ ((e m : ℕ) → r ≡ Entry e m → Chains (left first) (left older) (chainAt (left fall) (left live)) m) ⌝ }
 {
     let h = held[s];
     let start = WORDS * s;
@@ -379,7 +382,7 @@ fn place(
         &live[start..start + WORDS],
         byte,
     );
-    if sets::is_empty(&l) {
+    if words::is_empty(&l) {
         if s == 0 {
             return Placed::Entry(0, n);
         }
@@ -420,8 +423,12 @@ fn fill_row(
     s: usize,
     via: [u16; 256],
 ) -> Filled
-    requires { ⌜ Within (now lengths) rules ⌝ ∗ ⌜ InHand lent n s (others (now fall) (now held) (now live) (now out)) ⌝ ∗ ⌜ length (now row) ≡ 256 ⌝ ∗ ⌜ ((c : ℕ) → c < 256 → getD via c 0 < n) ⌝ ∗ ⌜ Chains (now first) (now older) (chainAt (now fall) (now live)) n ⌝ }
-    ensures { λ r. ⌜ RowFilled (rulesIn (now (symbols .entry)) (now (lengths .entry)) (now (pictures .entry)) rules) lent s via (now (row .entry)) n (others (now (fall .entry)) (now (held .entry)) (now (live .entry)) (now (out .entry))) (now (row .exit)) (others (now (fall .exit)) (now (held .exit)) (now (live .exit)) (now (out .exit))) r ⌝ ∗ ⌜ ((m : ℕ) → r ≡ Whole m → Chains (now (first .exit)) (now (older .exit)) (chainAt (now (fall .exit)) (now (live .exit))) m) ⌝ }
+    requires { ⌜ Within (now lengths) rules ⌝ ∗ ⌜ InHand lent n s (others (now fall) (now held) (now live) (now out)) ⌝
+        ∗ ⌜ length (now row) ≡ 256 ⌝ ∗ ⌜ ((c : ℕ) → c < 256 → getD via c 0 < n) ⌝
+        ∗ ⌜ Chains (now first) (now older) (chainAt (now fall) (now live)) n ⌝ }
+    ensures { λ r. ⌜ RowFilled (rulesIn (was symbols) (was lengths) (was pictures) rules) lent s via (was row) n
+        (others (was fall) (was held) (was live) (was out)) (left row) (others (left fall) (left held) (left live) (left out)) r ⌝
+        ∗ ⌜ ((m : ℕ) → r ≡ Whole m → Chains (left first) (left older) (chainAt (left fall) (left live)) m) ⌝ }
 {
     let mut rows = n;
     let mut c: usize = 0;
@@ -457,56 +464,6 @@ fn fill_row(
     Filled::Rows(rows)
 }
 
-fn zero16(numbers: &mut [u16])
-    ensures { λ _. ⌜ now (numbers .exit) ≡ zeros (now (numbers .entry)) ⌝ }
-{
-    let mut i = 0;
-    while i < numbers.len() {
-        numbers[i] = 0;
-        i += 1;
-    }
-}
-
-fn zero8(bytes: &mut [u8])
-    ensures { λ _. ⌜ now (bytes .exit) ≡ zeros (now (bytes .entry)) ⌝ }
-{
-    let mut i = 0;
-    while i < bytes.len() {
-        bytes[i] = 0;
-        i += 1;
-    }
-}
-
-fn zero64(words: &mut [u64])
-    ensures { λ _. ⌜ now (words .exit) ≡ zeros (now (words .entry)) ⌝ }
-{
-    let mut i = 0;
-    while i < words.len() {
-        words[i] = 0;
-        i += 1;
-    }
-}
-
-// Every entry of the five tables 0.
-fn zero_all(goto: &mut [u16], fall: &mut [u16], held: &mut [u8], live: &mut [u64], out: &mut [u64])
-    ensures { λ _. ⌜ now (goto .exit) ≡ zeros (now (goto .entry)) ⌝
-        ∗ ⌜ others (now (fall .exit)) (now (held .exit)) (now (live .exit)) (now (out .exit)) ≡ zeroOthers (others (now (fall .entry)) (now (held .entry)) (now (live .entry)) (now (out .entry))) ⌝ }
-{
-    zero16(goto);
-    zero16(fall);
-    zero8(held);
-    zero64(live);
-    zero64(out);
-}
-
-// The rows that tables of these lengths lend.
-pub fn rows_lent(goto: usize, fall: usize, held: usize, live: usize, out: usize) -> usize
-    ensures { λ r. ⌜ r ≡ lentOf goto fall held live out ⌝ }
-{
-    let sets = least(live / WORDS, least(out / WORDS, Book::ROWS));
-    least(goto / 256, least(fall, least(held, sets)))
-}
-
 // Row s, whole: its part of goto is lent to the row filler.
 fn build_row(
     symbols: &[u16; Book::PLACES],
@@ -524,8 +481,11 @@ fn build_row(
     n: usize,
     s: usize,
 ) -> Filled
-    requires { ⌜ Within (now lengths) rules ⌝ ∗ ⌜ Sane lent n (now goto) (others (now fall) (now held) (now live) (now out)) ⌝ ∗ ⌜ s < n ⌝ ∗ ⌜ Rising (now held) n (getD (now held) s 0 + 1) ⌝ ∗ ⌜ Chains (now first) (now older) (chainAt (now fall) (now live)) n ⌝ }
-    ensures { λ r. ⌜ RowBuilt (rulesIn (now (symbols .entry)) (now (lengths .entry)) (now (pictures .entry)) rules) lent n s (now (goto .entry)) (others (now (fall .entry)) (now (held .entry)) (now (live .entry)) (now (out .entry))) (now (goto .exit)) (others (now (fall .exit)) (now (held .exit)) (now (live .exit)) (now (out .exit))) r ⌝ ∗ ⌜ ((m : ℕ) → r ≡ Whole m → Chains (now (first .exit)) (now (older .exit)) (chainAt (now (fall .exit)) (now (live .exit))) m) ⌝ }
+    requires { ⌜ Within (now lengths) rules ⌝ ∗ ⌜ Sane lent n (now goto) (others (now fall) (now held) (now live) (now out)) ⌝ ∗ ⌜ s < n ⌝
+        ∗ ⌜ Rising (now held) n (getD (now held) s 0 + 1) ⌝ ∗ ⌜ Chains (now first) (now older) (chainAt (now fall) (now live)) n ⌝ }
+    ensures { λ r. ⌜ RowBuilt (rulesIn (was symbols) (was lengths) (was pictures) rules) lent n s (was goto)
+        (others (was fall) (was held) (was live) (was out)) (left goto) (others (left fall) (left held) (left live) (left out)) r ⌝
+        ∗ ⌜ ((m : ℕ) → r ≡ Whole m → Chains (left first) (left older) (chainAt (left fall) (left live)) m) ⌝ }
 {
     let below = fall[s];
     let via = via_row(goto, fall, below);
@@ -564,7 +524,8 @@ fn fill_all(
     lent: usize,
 ) -> Filled
     requires { ⌜ Within (now lengths) rules ⌝ ∗ ⌜ Sane lent 1 (now goto) (others (now fall) (now held) (now live) (now out)) ⌝ }
-    ensures { λ r. ⌜ AllFilled (rulesIn (now (symbols .entry)) (now (lengths .entry)) (now (pictures .entry)) rules) lent (now (goto .entry)) (others (now (fall .entry)) (now (held .entry)) (now (live .entry)) (now (out .entry))) (now (goto .exit)) (others (now (fall .exit)) (now (held .exit)) (now (live .exit)) (now (out .exit))) r ⌝ }
+    ensures { λ r. ⌜ AllFilled (rulesIn (was symbols) (was lengths) (was pictures) rules) lent (was goto)
+        (others (was fall) (was held) (was live) (was out)) (left goto) (others (left fall) (left held) (left live) (left out)) r ⌝ }
 {
     let mut first = [0u16; Book::ROWS];
     let mut older = [0u16; Book::ROWS];
@@ -610,10 +571,11 @@ fn make(
     out: &mut [u64],
 ) -> Built
     requires { ⌜ Within (book .lengths) (book .rules) ⌝ }
-    ensures { λ r. ⌜ Makes (rulesHeld book) (now (goto .entry)) (others (now (fall .entry)) (now (held .entry)) (now (live .entry)) (now (out .entry))) (now (goto .exit)) (others (now (fall .exit)) (now (held .exit)) (now (live .exit)) (now (out .exit))) r ⌝ }
+    ensures { λ r. ⌜ Makes (rulesHeld book) (was goto) (others (was fall) (was held) (was live) (was out)) (left goto)
+        (others (left fall) (left held) (left live) (left out)) r ⌝ }
 {
-    let rows = rows_lent(goto.len(), fall.len(), held.len(), live.len(), out.len());
-    zero_all(goto, fall, held, live, out);
+    let rows = lent::rows_lent(goto.len(), fall.len(), held.len(), live.len(), out.len());
+    lent::zero_all(goto, fall, held, live, out);
     if rows == 0 {
         return Built::NoRoom(0);
     }
@@ -635,7 +597,7 @@ fn make(
     match filled {
         Filled::Rows(n) => Built::Rows(n),
         Filled::Full => {
-            zero_all(goto, fall, held, live, out);
+            lent::zero_all(goto, fall, held, live, out);
             Built::NoRoom(rows)
         }
     }
@@ -650,9 +612,10 @@ pub fn build(
     live: &mut [u64],
     out: &mut [u64],
 ) -> Built
-    ensures { λ r. ⌜ Promise (now (bytes .entry)) (five (now (goto .entry)) (now (fall .entry)) (now (held .entry)) (now (live .entry)) (now (out .entry))) (five (now (goto .exit)) (now (fall .exit)) (now (held .exit)) (now (live .exit)) (now (out .exit))) r ⌝ }
+    ensures { λ r. ⌜ Promise (was bytes) (five (was goto) (was fall) (was held) (was live) (was out))
+        (five (left goto) (left fall) (left held) (left live) (left out)) r ⌝ }
 {
-    let read = book::read(bytes);
+    let read = reader::read(bytes);
     let answer = read.answer;
     match answer {
         Answer::Accepted => make(read.book, goto, fall, held, live, out),

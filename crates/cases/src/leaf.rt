@@ -11,6 +11,13 @@ pub fn above(a: usize, b: usize) -> usize {
     if b < a { a - b } else { 0 }
 }
 
+// x, or `most` where it is more.
+pub fn up_to(x: usize, most: usize) -> usize
+    ensures { λ r. ⌜ r ≤ most ⌝ }
+{
+    if x < most { x } else { most }
+}
+
 pub fn small(x: u8) -> usize
     ensures { λ r. ⌜ r < 256 ⌝ }
 {
@@ -30,21 +37,11 @@ pub fn at8(a: &[u8], i: usize) -> usize
     if i < a.len() { small(a[i]) } else { 0 }
 }
 
-pub fn at16(a: &[u16], i: usize) -> usize
-    ensures { λ r. ⌜ r < 65536 ⌝ }
-{
+pub fn at16(a: &[u16], i: usize) -> usize {
     if i < a.len() { medium(a[i]) } else { 0 }
 }
 
-pub fn at32(a: &[u32], i: usize) -> u32 {
-    if i < a.len() { a[i] } else { 0 }
-}
-
 pub fn at64(a: &[u64], i: usize) -> u64 {
-    if i < a.len() { a[i] } else { 0 }
-}
-
-pub fn at(a: &[usize], i: usize) -> usize {
     if i < a.len() { a[i] } else { 0 }
 }
 
@@ -55,70 +52,25 @@ pub fn put8(a: &mut [u8], i: usize, v: usize) {
     }
 }
 
-pub fn put16(a: &mut [u16], i: usize, v: usize) {
-    if i < a.len() {
-        a[i] = (v % 65536) as u16;
-    }
-}
-
-pub fn put32(a: &mut [u32], i: usize, v: usize) {
-    if i < a.len() {
-        a[i] = (v % 4294967296) as u32;
-    }
-}
-
 pub fn put64(a: &mut [u64], i: usize, v: u64) {
     if i < a.len() {
         a[i] = v;
     }
 }
 
-pub fn put(a: &mut [usize], i: usize, v: usize) {
-    if i < a.len() {
-        a[i] = v;
-    }
+// What of the bytes stands from `from` to `to`.
+pub fn part(bytes: &[u8], from: usize, to: usize) -> &[u8] {
+    let end = up_to(to, bytes.len());
+    let start = up_to(from, end);
+    &bytes[start..end]
 }
 
-// Rule k in a set of rules.
-pub fn has(rules: u64, k: usize) -> bool {
-    k < 64 && (rules >> k) & 1 == 1
+// The first bytes of what was drawn.
+pub fn first(bytes: &[u8; 2560], size: usize) -> &[u8] {
+    part(bytes, 0, size)
 }
 
-pub fn with(rules: u64, k: usize) -> u64 {
-    if k < 64 { rules | (1u64 << k) } else { rules }
-}
-
-// x, or `most` where it is more.
-pub fn up_to(x: usize, most: usize) -> usize
-    ensures { λ r. ⌜ r ≤ most ⌝ }
-{
-    if x < most { x } else { most }
-}
-
-// Whether every place from `from` on holds v.
-pub fn all8(a: &[u8], from: usize, v: u8) -> bool {
-    for i in from..a.len() {
-        if a[i] != v {
-            return false;
-        }
-    }
-    true
-}
-
-pub fn all16(a: &[u16], from: usize, v: u16) -> bool {
-    for i in from..a.len() {
-        if a[i] != v {
-            return false;
-        }
-    }
-    true
-}
-
-pub fn all64(a: &[u64], from: usize, v: u64) -> bool {
-    for i in from..a.len() {
-        if a[i] != v {
-            return false;
-        }
-    }
-    true
+// Number k in a set of numbers below 64.
+pub fn has(set: u64, k: usize) -> bool {
+    k < 64 && (set >> k) & 1 == 1
 }

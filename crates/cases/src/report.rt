@@ -1,61 +1,39 @@
-// What a run carries along: how often things were compared, the book at hand, and the sequence that everything is drawn from.
+// The numbers that everything is drawn from, and how often things were compared.
 use crate::leaf::above;
 use crate::leaf::at8;
 use crate::leaf::at64;
 use crate::leaf::plus;
 use crate::leaf::put64;
 
-// Places of a run. From the first seven on the counts are by number.
+// Places of the counts. From the first two on the counts are by number.
 pub const READ: usize = 0;
-
-// Past the numbers of the books read: reports of a rule that a line's tally has counted.
-pub const AGAIN: usize = 31;
 
 pub const BUILT: usize = 32;
 
-pub const WALKED: usize = 64;
+pub const ROWS: usize = 64;
 
-pub const DAMAGED: usize = 96;
+pub const DIFFERENCES: usize = 65;
 
-pub const LONG: usize = 128;
+// The book at hand.
+pub const NUMBER: usize = 66;
 
-pub const TALLIED: usize = 160;
+// Sound books with a byte in two pictures.
+pub const SHARING: usize = 67;
 
-pub const SPOILED: usize = 192;
-
-pub const ROWS: usize = 224;
-
-pub const REPORTS: usize = 225;
-
-pub const FALLS: usize = 226;
-
-pub const DIFFERENCES: usize = 227;
-
-const NUMBER: usize = 228;
-
-const SEED: usize = 229;
-
-const LOW: usize = 230;
-
-// Counts at the limit, by number again.
-pub const COUNTS: usize = 231;
-
-// Sound books with a byte in two pictures, and the books of decimal and hexadecimal digits.
-pub const SHARING: usize = 250;
-
-pub const DIGITS: usize = 251;
+// Books of decimal and hexadecimal digits.
+pub const DIGITS: usize = 68;
 
 // Books of more than 64 rules: drawn, sound, and built within the rows lent.
-pub const LARGE: usize = 252;
+pub const LARGE: usize = 69;
 
-pub const LARGE_SOUND: usize = 253;
+pub const LARGE_SOUND: usize = 70;
 
-pub const LARGE_BUILT: usize = 254;
+pub const LARGE_BUILT: usize = 71;
 
 // Books refused for a rule with several symbols at fault.
-pub const SEVERAL: usize = 255;
+pub const SEVERAL: usize = 72;
 
-// ---- the sequence
+// ---- what is drawn
 
 fn step(x: u64) -> u64 {
     let a = x ^ (x << 13);
@@ -63,42 +41,31 @@ fn step(x: u64) -> u64 {
     b ^ (b << 17)
 }
 
-pub fn seed_of(run: &[u64; 256]) -> u64 {
-    at64(run, SEED)
+fn scatter(x: u64) -> u64 {
+    let y = (x % 4294967296) * 2654435761;
+    step(y ^ (x >> 32))
 }
 
-pub fn go_on_from(run: &mut [u64; 256], seed: u64) {
-    put64(run, SEED, seed);
+// A key of its own for each place of a key. Its remainder by 4 is the first one's.
+pub fn key_of(key: u64, place: usize) -> u64 {
+    let begin = (place as u64 % 1000000 + 1) * 2654435761;
+    let end = scatter(scatter(std::num::wrapping_add_u64(key, begin)));
+    end / 4 * 4 + key % 4
 }
 
-// The sequence of a number.
-pub fn restart(run: &mut [u64; 256], number: u64) {
-    let mut seed = (number % 1000000 + 1) * 2654435761;
-    for _ in 0..8usize {
-        seed = step(seed);
+// The number below n that a key has at a place.
+pub fn pick(key: u64, place: usize, n: usize) -> usize {
+    if n == 0 {
+        0
+    } else {
+        (key_of(key, place) >> 11) as usize % n
     }
-    put64(run, SEED, seed);
 }
 
-// The next number of the sequence, below n.
-pub fn draw(run: &mut [u64; 256], n: usize) -> usize {
-    let seed = step(at64(run, SEED));
-    put64(run, SEED, seed);
-    if n == 0 { 0 } else { (seed >> 11) as usize % n }
-}
-
-// The letters, ascending. A book and its texts use those from some place on, so that few letters make many overlaps.
-pub fn letter(run: &mut [u64; 256]) -> usize {
-    let low = at64(run, LOW) as usize;
-    at8(b"1;abc", plus(low, draw(run, above(5, low))))
-}
-
-// Another book.
-pub fn begin(run: &mut [u64; 256], number: u64) {
-    put64(run, NUMBER, number);
-    restart(run, number);
-    let low = draw(run, 4) as u64;
-    put64(run, LOW, low);
+// The letters, ascending. A key has those from its remainder by 4 on, so that few letters make many overlaps.
+pub fn letter(key: u64, place: usize) -> usize {
+    let low = (key % 4) as usize;
+    at8(b"1;abc", plus(low, pick(key, place, above(5, low))))
 }
 
 // ---- the counts
@@ -114,9 +81,7 @@ pub fn expect(run: &mut [u64; 256], is_so: bool, what: &[u8]) {
         count(run, DIFFERENCES, 1);
         io::write_all(1, b"difference: ");
         io::write_all(1, what);
-        io::write_all(1, b", book ");
-        io::print_decimal(1, at64(run, NUMBER));
-        io::write_all(1, b"\n");
+        say(run, b", book", NUMBER);
     }
 }
 

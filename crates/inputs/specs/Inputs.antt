@@ -8,9 +8,9 @@ use Rattle.inputs.specs.declared.Both.{Both}
 use Rattle.inputs.specs.declared.Both.the-variants.{Whole as Wholes, Refused as Neither}
 
 -- an input that was read whole left a place of the buffer free, so it is no longer than it may be
-abbrev pub Fits : Input → ℕ → Type 0
-Fits (Whole n) room = n < room
-Fits Refused room = Unit {0}
+abbrev pub InputFits : Input → ℕ → Type 0
+InputFits (Whole n) room = n < room
+InputFits Refused room = Unit {0}
 
 -- the same of both
 abbrev pub BothFit : Both → ℕ → ℕ → Type 0

@@ -2,7 +2,8 @@
 
 use libc::STDIN_FILENO;
 ghost use lib.ListN.{length};
-ghost use Rattle.inputs.specs.Inputs.{Fits, BothFit};
+ghost use Rattle.moments.specs.Moments.{left};
+ghost use Rattle.inputs.specs.Inputs.{InputFits, BothFit};
 
 // The room for a book and for a text: one byte more than each may have, so that an input which fills it is too long.
 pub const BOOK_ROOM: usize = 49152 + 1;
@@ -14,7 +15,7 @@ pub const ROWS: usize = 120;
 
 pub const ENTRIES: usize = 256 * ROWS;
 
-pub const WORDS: usize = sets::WORDS * ROWS;
+pub const WORDS: usize = words::WORDS * ROWS;
 
 // What reading an input came to: all its bytes, so many; or it cannot be read or is too long.
 enum Input {
@@ -30,7 +31,7 @@ pub enum Both {
 
 // Reads the book and the text.
 pub fn read_both(book: &mut [u8; BOOK_ROOM], text: &mut [u8; TEXT_ROOM]) -> Both
-    ensures { λ r. ⌜ BothFit r (length (now (book .exit))) (length (now (text .exit))) ⌝ }
+    ensures { λ r. ⌜ BothFit r (length (left book)) (length (left text)) ⌝ }
 {
     let Input::Whole(b) = read_book(book) else {
         return Both::Refused;
@@ -43,7 +44,7 @@ pub fn read_both(book: &mut [u8; BOOK_ROOM], text: &mut [u8; TEXT_ROOM]) -> Both
 
 // Reads the file `book.bin` of the working folder.
 fn read_book(room: &mut [u8; BOOK_ROOM]) -> Input
-    ensures { λ r. ⌜ Fits r (length (now (room .exit))) ⌝ }
+    ensures { λ r. ⌜ InputFits r (length (left room)) ⌝ }
 {
     let file = os::open_read(b"book.bin");
     if file < 0 {
@@ -56,14 +57,14 @@ fn read_book(room: &mut [u8; BOOK_ROOM]) -> Input
 
 // Reads standard input.
 fn read_text(room: &mut [u8; TEXT_ROOM]) -> Input
-    ensures { λ r. ⌜ Fits r (length (now (room .exit))) ⌝ }
+    ensures { λ r. ⌜ InputFits r (length (left room)) ⌝ }
 {
     read_all(STDIN_FILENO, room)
 }
 
 // Reads to the end of the input, which has to come before the room is full.
 fn read_all(file: i32, room: &mut [u8]) -> Input
-    ensures { λ r. ⌜ Fits r (length (now (room .exit))) ⌝ }
+    ensures { λ r. ⌜ InputFits r (length (left room)) ⌝ }
 {
     let mut done = 0;
     while done < room.len() {

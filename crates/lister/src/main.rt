@@ -6,7 +6,8 @@ use walk::Walked;
 ghost use mathlib.Core.Path.{_≡_};
 ghost use Prim.Native.Nat.{_+_, _*_, _≤_};
 ghost use lib.ListN.{length, take};
-ghost use Rattle.build.specs.Promise.{five};
+ghost use Rattle.moments.specs.Moments.{was, left};
+ghost use Rattle.lent.specs.Lent.{five};
 ghost use Rattle.output.specs.Printed.{Puts};
 ghost use Rattle.lister.specs.Listing.{reportLines, shownLines, PutsSearch, listRoom, ListerAnswer};
 
@@ -38,8 +39,8 @@ fn list(book: &[u8], text: &[u8]) {
 // Builds the book's tables, has the text walked over them, and puts the lines of both.
 fn put_answer(book: &[u8], text: &[u8], answer: &mut [u8]) -> usize
     requires { ⌜ listRoom ≤ length (now answer) ⌝ }
-    ensures { λ r. ⌜ r ≤ length (now (answer .exit)) ⌝ }
-    ensures { λ r. ⌜ ListerAnswer (now (book .entry)) (now (text .entry)) (take r (now (answer .exit))) ⌝ }
+    ensures { λ r. ⌜ r ≤ length (left answer) ⌝ }
+    ensures { λ r. ⌜ ListerAnswer (was book) (was text) (take r (left answer)) ⌝ }
 {
     let mut goto = [0u16; inputs::ENTRIES];
     let mut fall = [0u16; inputs::ROWS];
@@ -76,7 +77,7 @@ fn search(
     answer: &mut [u8],
     at: usize,
 ) -> usize
-    ensures { λ r. ⌜ PutsSearch (five (now (goto .entry)) (now (fall .entry)) (now (held .entry)) (now (live .entry)) (now (out .entry))) rows (now (text .entry)) (now (answer .entry)) at (now (answer .exit)) r ⌝ }
+    ensures { λ r. ⌜ PutsSearch (five (was goto) (was fall) (was held) (was live) (was out)) rows (was text) (was answer) at (left answer) r ⌝ }
 {
     let mut reports = [0u32; PLACES];
     let walked = walk::walk(goto, fall, held, live, out, rows, text, &mut reports);
@@ -93,8 +94,8 @@ fn search(
 // Puts what an accepted walk answers: its reports, then the fallbacks with the held length.
 fn show(reports: &[u32], made: usize, falls: u64, held: u8, answer: &mut [u8], at: usize) -> usize
     requires { ⌜ 2 * made ≤ length (now reports) ⌝ }
-    ensures { λ _. ⌜ length (shownLines (take (2 * made) (now (reports .entry))) falls held) ≤ 22 * made + 64 ⌝ }
-    ensures { λ r. ⌜ Puts (shownLines (take (2 * made) (now (reports .entry))) falls held) (now (answer .entry)) at (now (answer .exit)) r ⌝ }
+    ensures { λ _. ⌜ length (shownLines (take (2 * made) (was reports)) falls held) ≤ 22 * made + 64 ⌝ }
+    ensures { λ r. ⌜ Puts (shownLines (take (2 * made) (was reports)) falls held) (was answer) at (left answer) r ⌝ }
 {
     let end = show_reports(reports, made, answer, at);
     output::put_pair(answer, end, b"falls ", falls, b" held ", held as u64)
@@ -103,8 +104,8 @@ fn show(reports: &[u32], made: usize, falls: u64, held: u8, answer: &mut [u8], a
 // Puts a line for each report made: the end and the rule.
 fn show_reports(reports: &[u32], made: usize, answer: &mut [u8], at: usize) -> usize
     requires { ⌜ 2 * made ≤ length (now reports) ⌝ }
-    ensures { λ _. ⌜ length (reportLines (take (2 * made) (now (reports .entry)))) ≤ 22 * made ⌝ }
-    ensures { λ r. ⌜ Puts (reportLines (take (2 * made) (now (reports .entry)))) (now (answer .entry)) at (now (answer .exit)) r ⌝ }
+    ensures { λ _. ⌜ length (reportLines (take (2 * made) (was reports))) ≤ 22 * made ⌝ }
+    ensures { λ r. ⌜ Puts (reportLines (take (2 * made) (was reports))) (was answer) at (left answer) r ⌝ }
 {
     let mut to = at;
     let mut i = 0;

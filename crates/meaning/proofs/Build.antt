@@ -15,7 +15,8 @@ use lib.ListN.{length, getD, List·getD-append}
 use lib.Seq.{getD-append-seam}
 use borrow.Author.Tests.{eq-eqb, ne-eqb}
 use Rattle.rows.specs.Rows.{IsRow, HasRow, Ascending, IsRows, MoreThan}
-use Rattle.rows.proofs.Rows.{Congruence, row-same, row-own, row-append, one-row}
+use Rattle.rows.specs.Unique.{Congruence}
+use Rattle.rows.proofs.Rows.{row-same, row-own, row-append, one-row}
 use Rattle.rows.proofs.Build.{Partial, start, found, added, next, finish, crowded, length-snoc, row-new}
 use Rattle.meaning.specs.Rules.{Rules}
 use Rattle.meaning.specs.Standing.{Same, held, live, out}

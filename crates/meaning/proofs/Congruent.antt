@@ -4,7 +4,7 @@ use Prim.Native.Nat.{ℕ, zero, suc, pred}
 use native.Mathlib.Omega.{arith}
 use lib.ListN.{take}
 use Rattle.rows.specs.Rows.{ByteText}
-use Rattle.rows.proofs.Rows.{Congruence}
+use Rattle.rows.specs.Unique.{Congruence}
 use Rattle.meaning.specs.Rules.{Rules}
 use Rattle.meaning.specs.Standing.{Same, held}
 use Rattle.meaning.proofs.Levels.{same-refl, same-sym, same-trans, same-cons}

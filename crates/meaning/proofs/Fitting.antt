@@ -1,14 +1,21 @@
--- `stands`, byte by byte: the last j bytes are there, the first j symbols are there, and each byte fits its symbol. Assumes nothing.
+-- A byte and a symbol; and `stands`, byte by byte: the last j bytes are there, the first j symbols are there, and each byte fits its symbol.
+-- Assumes nothing.
 use mathlib.Core.Path.{_≡_, refl}
-use mathlib.Core.Logic.{_↔_}
 use mathlib.Core.Bool.{true, _&&_, and-eq-true-iff, false≢true}
 use mathlib.Core.List.{List, [], _∷_}
-use Prim.Native.Nat.{ℕ, zero, suc, _-_, zero-le}
+use Prim.Native.Nat.{ℕ, zero, suc, _+_, _-_, zero-le}
 use native.Mathlib.Omega.{arith}
 use native.Mathlib.Decide.{decLt}
 use lib.Dec.{ltb}
-use borrow.Author.Tests.{ltb-true, lt-ltb}
-use Rattle.meaning.specs.Rules.{Rules, size, symbol, fits, fitsAt, stands, Fits}
+use borrow.Author.Tests.{ltb-true, lt-ltb, le-ltb, eqb-true, eq-eqb}
+use Rattle.meaning.specs.Rules.{Rules, size, symbol, fits, FitsSymbols, fitsAt, stands, Fits, StandsIff}
+
+pub fits-symbols : FitsSymbols
+unfolding fits
+fits-symbols r c = record {
+  byte = λ b l. rw (lt-ltb b 256 l) (eqb-true c b, eq-eqb c b);
+  picture = λ p. let q : 256 + p - 256 ≡ p = omega arith in rw (le-ltb (256 + p) 256 (omega arith), q);
+}
 
 stands-fits : (r : Rules) (t : List ℕ) (k j : ℕ) → stands r t k j ≡ true → Fits r t k j
 unfolding stands fitsAt
@@ -41,5 +48,5 @@ fits-stands r (c ∷ t) k (suc j) x =
     }) in
     rw (lt-ltb j (size r k) (x .symbols), e, b)
 
-pub stands-iff : (r : Rules) (t : List ℕ) (k j : ℕ) → (stands r t k j ≡ true) ↔ Fits r t k j
+pub stands-iff : StandsIff
 stands-iff r t k j = (stands-fits r t k j, fits-stands r t k j)

@@ -11,5 +11,6 @@ pub mod Looks
 pub mod Build
 pub mod Tested
 pub mod Unique
-pub mod Checked
-pub mod Books
+pub mod Lists
+pub mod Occurrences
+pub mod FitsWhole

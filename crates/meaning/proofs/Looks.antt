@@ -9,7 +9,8 @@ use native.Mathlib.Omega.{arith}
 use lib.ListN.{length, getD}
 use borrow.Author.Tests.{eq-eqb, ne-eqb}
 use Rattle.rows.specs.Rows.{IsRow, Ascending}
-use Rattle.rows.proofs.Rows.{Congruence, row-same, root}
+use Rattle.rows.specs.Unique.{Congruence}
+use Rattle.rows.proofs.Rows.{row-same, root}
 use Rattle.meaning.specs.Rules.{Rules}
 use Rattle.meaning.specs.Standing.{Same, held, out}
 use Rattle.meaning.specs.Falls.{falls}

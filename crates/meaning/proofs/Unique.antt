@@ -13,17 +13,16 @@ use Rattle.rows.specs.Rows.{Ascending, MoreThan, AtMost}
 use Rattle.rows.proofs.Rows.{one-row, unique}
 use Rattle.rows.proofs.Exists.{exists}
 use Rattle.sets.specs.Table.{rowWords, rulesAt}
-use Rattle.sets.proofs.InWords.{Words}
 use Rattle.sets.proofs.Table.{same-table}
 use Rattle.meaning.specs.Rules.{Rules}
 use Rattle.meaning.specs.Standing.{Same}
-use Rattle.meaning.specs.Tables.{Numbers, Entry, goesOnAt, Gotos, Five, gotoAt, columns, ZeroFrom, Tables}
+use Rattle.meaning.specs.Tables.{Numbers, Entry, goesOnAt, Gotos, Five, gotoAt, columns, ZeroFrom, Tables, Alike, OneFive}
 use Rattle.meaning.proofs.Congruent.{congruence}
 use Rattle.meaning.proofs.Shorter.{fall-row}
 use Rattle.meaning.proofs.Tested.{same-decided}
 
 pub rows-or-more : (r : Rules) (n : ℕ) → MoreThan (Same r) n ⊎ AtMost (Same r) n
-rows-or-more r n = exists (congruence r) (same-decided r) n
+rows-or-more r n = exists (Same r) (congruence r) (same-decided r) n
 
 -- ---- row by row
 
@@ -36,15 +35,6 @@ module _ {r : Rules} {ts : List (List ℕ)} (asc : Ascending (Same r) ts) where
       go false a a′ = a .back refl ∙ sym (a′ .back refl)
 
 -- ---- place by place
-
--- the buffers are as long as one another, and live and out are words
-pub record Alike (b b′ : Five) : Type 0 where
-  pub goto : length (b .goto) ≡ length (b′ .goto)
-  pub fall : length (b .fall) ≡ length (b′ .fall)
-  pub held : length (b .held) ≡ length (b′ .held)
-  pub live : length (b .live) ≡ length (b′ .live)
-  pub out : length (b .out) ≡ length (b′ .out)
-  pub words : Words (b .live) × Words (b′ .live) × Words (b .out) × Words (b′ .out)
 
 -- two lists of one length, equal below n and 0 from there on
 same-list : (n : ℕ) (xs ys : List ℕ) → length xs ≡ length ys → ZeroFrom n xs → ZeroFrom n ys → ((i : ℕ) → i < n → getD xs i 0 ≡ getD ys i 0) → xs ≡ ys
@@ -69,9 +59,9 @@ module _ {r : Rules} {b b′ : Five} {n : ℕ} (x : Tables r b n) (y : Tables r 
       subst (λ (k : ℕ). getD (b .goto) k 0 ≡ getD (b′ .goto) k 0) e
       (one-goto (x .rows .ascending) (x .gotos) gotos′ (i / 256) (i % 256) (omega (arith, x .count)) m)
 
-  pub one-five : Alike b b′ → b ≡ b′
+  same-five : Alike b b′ → b ≡ b′
   unfolding rulesAt
-  one-five a =
+  same-five a =
       let (wl, wl′, wo, wo′) = a .words in
       λ i. record {
         goto = same-list (256 * n) (b .goto) (b′ .goto) (a .goto) (x .rest .goto-rest) (y .rest .goto-rest) goto-same i;
@@ -84,6 +74,9 @@ module _ {r : Rules} {b b′ : Five} {n : ℕ} (x : Tables r b n) (y : Tables r 
         out = same-list (rowWords * n) (b .out) (b′ .out) (a .out) (x .rest .out-rest) (y .rest .out-rest)
             (same-table rowWords n (b .out) (b′ .out) wo wo′ (by-row (x .numbers .out-is) (numbers′ .out-is))) i;
       }
+
+pub one-five : OneFive
+one-five r b b′ n x y a = same-five x y a
 
 -- the rules determine how many rows there are
 pub one-count : {r : Rules} {b b′ : Five} {n n′ : ℕ} → Tables r b n → Tables r b′ n′ → n ≡ n′

@@ -3,4 +3,4 @@ pub mod Standing
 pub mod Falls
 pub mod Tables
 pub mod Step
-pub mod Books
+pub mod Occurrences

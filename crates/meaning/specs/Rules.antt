@@ -1,9 +1,10 @@
 -- A rule book without its format: the rules, each a list of symbols, and the members of each picture. A text is a list of bytes, the latest read first.
 -- Assumes nothing.
 use mathlib.Core.Path.{_≡_}
+use mathlib.Core.Logic.{_↔_}
 use mathlib.Core.Bool.{Bool, true, false, _&&_, cond}
 use mathlib.Core.List.{List, [], _∷_}
-use Prim.Native.Nat.{ℕ, zero, suc, _-_, _≤_, _<_}
+use Prim.Native.Nat.{ℕ, zero, suc, _+_, _-_, _≤_, _<_}
 use lib.Dec.{ltb, eqb}
 use lib.ListN.{length, getD}
 
@@ -28,6 +29,14 @@ symbol r k j = getD (getD (r .rules) k []) j 0
 unfoldable pub fits : Rules → ℕ → ℕ → Bool
 fits r c s = cond (ltb s 256) (eqb c s) (r .member (s - 256) c)
 
+-- in plain words: a symbol below 256 is fitted by that byte alone, and 256 + p by the members of picture p
+pub record FitsSymbol (r : Rules) (c : ℕ) : Type 0 where
+  pub byte : (b : ℕ) → b < 256 → (fits r c b ≡ true) ↔ (c ≡ b)
+  pub picture : (p : ℕ) → fits r c (256 + p) ≡ r .member p c
+
+abbrev pub FitsSymbols : Type 0
+FitsSymbols = (r : Rules) (c : ℕ) → FitsSymbol r c
+
 -- rule k has a symbol j, and the byte c fits it
 unfoldable pub fitsAt : Rules → ℕ → ℕ → ℕ → Bool
 fitsAt r c k j = ltb j (size r k) && fits r c (symbol r k j)
@@ -43,3 +52,6 @@ pub record Fits (r : Rules) (t : List ℕ) (k j : ℕ) : Type 0 where
   pub bytes : j ≤ length t
   pub symbols : j ≤ size r k
   pub each : (i : ℕ) → i < j → fits r (getD t (j - suc i) 0) (symbol r k i) ≡ true
+
+abbrev pub StandsIff : Type 0
+StandsIff = (r : Rules) (t : List ℕ) (k j : ℕ) → (stands r t k j ≡ true) ↔ Fits r t k j

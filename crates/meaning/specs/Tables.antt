@@ -3,7 +3,7 @@
 use mathlib.Core.Path.{_≡_}
 use mathlib.Core.Bool.{Bool, true, false, _||_}
 use mathlib.Core.List.{List, [], _∷_}
-use Prim.Native.Nat.{ℕ, _+_, _*_, _≤_, _<_}
+use Prim.Native.Nat.{ℕ, _+_, _*_, _^_, _≤_, _<_}
 use lib.Dec.{eqb}
 use lib.ListN.{length, getD}
 use Rattle.rows.specs.Rows.{IsRow, IsRows}
@@ -87,3 +87,22 @@ pub record Tables (r : Rules) (b : Five) (n : ℕ) : Type 0 where
   pub numbers : Numbers r texts (columns b)
   pub gotos : Gotos r texts (gotoAt (b .goto))
   pub rest : Rest n b
+
+-- ---- one content
+
+-- every number is a word of 64 bits
+abbrev pub AreWords : List ℕ → Type 0
+AreWords xs = (i : ℕ) → getD xs i 0 < 2 ^ 64
+
+-- the buffers are as long as one another, and live and out are words
+pub record Alike (b b′ : Five) : Type 0 where
+  pub goto : length (b .goto) ≡ length (b′ .goto)
+  pub fall : length (b .fall) ≡ length (b′ .fall)
+  pub held : length (b .held) ≡ length (b′ .held)
+  pub live : length (b .live) ≡ length (b′ .live)
+  pub out : length (b .out) ≡ length (b′ .out)
+  pub words : AreWords (b .live) × AreWords (b′ .live) × AreWords (b .out) × AreWords (b′ .out)
+
+-- such buffers have one content where they hold the tables of the same rules
+abbrev pub OneFive : Type 0
+OneFive = (r : Rules) (b b′ : Five) (n : ℕ) → Tables r b n → Tables r b′ n → Alike b b′ → b ≡ b′

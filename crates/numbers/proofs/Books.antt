@@ -5,12 +5,13 @@ use Prim.Native.Nat.{ℕ}
 use Rattle.sets.specs.Sets.{setWhere}
 use Rattle.meaning.specs.Rules.{fits, fitsAt, stands}
 use Rattle.meaning.specs.Standing.{level, opens, largest, held, live, ends, out}
-use Rattle.meaning.specs.Books.{Written, Right, X, Y}
+use Rattle.worked.specs.Books.{Written, Right, X, Y}
 use Rattle.meaning.proofs.Tested.{below}
-use Rattle.meaning.proofs.Checked.{sameText, isBefore, anyOf, bound, right}
+use Rattle.worked.proofs.Checked.{sameText, isBefore, anyOf, bound, right}
 use Rattle.book.specs.Content.{Content, member}
-use Rattle.book.specs.declared.Refusal.the-variants.{NoRule}
-use Rattle.book.specs.Format.{means, refused, meaningOf, fields, follow, ended, fieldAt, fieldOf, headAt, pictureField, judgePicture, ascending, rises, ruleField, outcome, judgeRule, judgeSymbol, firstOf, judgeSymbols, symbolsOf}
+use Rattle.format.specs.declared.Refusal.the-variants.{NoRule}
+use Rattle.book.specs.Grown.{symbolsOf}
+use Rattle.format.specs.Format.{means, refused, meaningOf, fields, follow, ended, fieldAt, fieldOf, headAt, pictureField, judgePicture, ascendingBody, rises, ruleField, outcome, judgeRule, judgeSymbol, firstOf, judgeSymbols}
 use Rattle.book.specs.Meant.{rulesOf}
 use Rattle.numbers.specs.Inputs.{bytesA, bytesAA, letters, bytesX, bytesY}
 
@@ -44,11 +45,11 @@ unfolding meaningOf fields follow ended fieldAt fieldOf headAt ruleField outcome
 means-AA = record { meant = refl }
 
 pub means-X : Means bytesX contentX
-unfolding meaningOf fields follow ended fieldAt fieldOf headAt pictureField judgePicture ascending rises ruleField outcome judgeRule judgeSymbols judgeSymbol firstOf symbolsOf
+unfolding meaningOf fields follow ended fieldAt fieldOf headAt pictureField judgePicture ascendingBody rises ruleField outcome judgeRule judgeSymbols judgeSymbol firstOf symbolsOf
 means-X = record { meant = refl }
 
 pub means-Y : Means bytesY contentY
-unfolding meaningOf fields follow ended fieldAt fieldOf headAt pictureField judgePicture ascending rises ruleField outcome judgeRule judgeSymbols judgeSymbol firstOf symbolsOf
+unfolding meaningOf fields follow ended fieldAt fieldOf headAt pictureField judgePicture ascendingBody rises ruleField outcome judgeRule judgeSymbols judgeSymbol firstOf symbolsOf
 means-Y = record { meant = refl }
 
 -- ---- their rows

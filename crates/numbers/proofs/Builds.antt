@@ -9,16 +9,17 @@ use Rattle.rows.specs.Rows.{AtMost}
 use Rattle.rows.proofs.Rows.{one-row, unique, not-both}
 use Rattle.meaning.specs.Standing.{Same}
 use Rattle.meaning.specs.Tables.{Five, Numbers, columns, Tables}
-use Rattle.meaning.specs.Books.{Written, Right}
+use Rattle.worked.specs.Books.{Written, Right}
 use Rattle.meaning.proofs.Congruent.{congruence}
 use Rattle.meaning.proofs.Shorter.{fall-row}
-use Rattle.book.specs.declared.Refusal.{Refusal}
-use Rattle.book.specs.Answers.{number, value}
+use Rattle.format.specs.declared.Refusal.{Refusal}
+use Rattle.format.specs.Answers.{number, value}
 use Rattle.book.specs.Content.{Content}
-use Rattle.book.specs.Format.{Meaning, means, refused, meaningOf}
+use Rattle.format.specs.Format.{Meaning, means, refused, meaningOf}
 use Rattle.book.specs.Limits.{mostRows}
 use Rattle.book.specs.Meant.{rulesOf}
-use Rattle.build.specs.Promise.{lent, zeroed, Builds, accepted, no-room, Answers, builds, refuses}
+use Rattle.lent.specs.Lent.{lent, zeroed}
+use Rattle.build.specs.Promise.{Builds, accepted, no-room, Answers, builds, refuses}
 use Rattle.numbers.specs.Cases.{found, cleared, tables, build, Holds}
 use Rattle.numbers.proofs.Books.{Means}
 

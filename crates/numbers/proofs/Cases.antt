@@ -5,16 +5,18 @@ use mathlib.Core.List.{[]}
 use native.Mathlib.Omega.{arith}
 use Rattle.sets.specs.Sets.{has, setWhere, those, members, reports, setOf}
 use Rattle.sets.specs.Table.{rowSet, rulesAt}
+use Rattle.sets.specs.Sums.{sumOver}
 use Rattle.meaning.specs.Rules.{fits, fitsAt, stands}
 use Rattle.meaning.specs.Standing.{level, opens, largest, held, ends, out}
 use Rattle.meaning.specs.Falls.{longest, nextLongest, fitsWith, fallsFrom, falls, fallsIn}
 use Rattle.meaning.proofs.Tested.{below}
 use Rattle.book.specs.Content.{member, table}
 use Rattle.walk.specs.Walk.{lookAt, moveIn, moveFrom, reported, runFrom, reportsFrom, written}
-use Rattle.walk.proofs.Occurrences.{occurrencesFrom}
-use Rattle.tally.specs.Lines.{split, linesOf, lastFrom, numberFrom, countOf, lineOf}
-use Rattle.tally.specs.Totals.{FirstBroken, endsFrom, once, partsOf}
-use Rattle.tally.specs.Written.{startOf}
+use Rattle.meaning.proofs.Occurrences.{occurrencesFrom}
+use Rattle.lines.specs.Lines.{split, linesOf, lastFrom, numberFrom, countOf, lineOf}
+use Rattle.lines.specs.Written.{startOf}
+use Rattle.lines.specs.Profile.{FirstBroken}
+use Rattle.summed.specs.Totals.{endsFrom, once}
 use Rattle.numbers.specs.Inputs.{aab1-ab-3, a-01}
 use Rattle.numbers.specs.Cases.{cases, All, none, also}
 use Rattle.numbers.proofs.Books.{empty-refused, means-A, means-AA, means-X, means-Y, A-right, X-right, Y-right}
@@ -27,7 +29,7 @@ unfolding split lastFrom numberFrom countOf lineOf
 a-01-broken = record { below = omega arith; broken = refl; before = λ j l. absurd (omega arith) }
 
 pub numbers : All cases
-unfolding isBytes below table member has setWhere those members reports setOf rowSet rulesAt fits fitsAt stands level opens largest held ends out longest nextLongest fitsWith fallsFrom falls fallsIn occurrencesFrom lookAt moveIn moveFrom reported runFrom reportsFrom written split lastFrom numberFrom countOf lineOf startOf endsFrom once partsOf
+unfolding isBytes below table member has setWhere those members reports setOf rowSet rulesAt fits fitsAt stands level opens largest held ends out longest nextLongest fitsWith fallsFrom falls fallsIn occurrencesFrom lookAt moveIn moveFrom reported runFrom reportsFrom written split lastFrom numberFrom countOf lineOf startOf endsFrom once sumOver
 numbers =
     also (refusing [] empty-refused)
     (also (enough means-A A-right refl refl refl)

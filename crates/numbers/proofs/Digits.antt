@@ -7,25 +7,26 @@ use Rattle.sets.specs.Table.{rowSet, rulesAt}
 use Rattle.meaning.specs.Rules.{fits, fitsAt, stands}
 use Rattle.meaning.specs.Standing.{level, opens, largest, held, live, ends, out}
 use Rattle.meaning.specs.Falls.{longest, nextLongest, fitsWith, fallsFrom, falls, fallsIn}
-use Rattle.meaning.specs.Books.{Written, Right}
+use Rattle.worked.specs.Books.{Written, Right}
 use Rattle.meaning.proofs.Tested.{below}
-use Rattle.meaning.proofs.Checked.{sameText, isBefore, anyOf, bound, right}
+use Rattle.worked.proofs.Checked.{sameText, isBefore, anyOf, bound, right}
 use Rattle.book.specs.Content.{Content, member, table}
-use Rattle.book.specs.Format.{meaningOf, fields, follow, ended, fieldAt, fieldOf, headAt, pictureField, judgePicture, ascending, rises, ruleField, outcome, judgeRule, judgeSymbol, firstOf, judgeSymbols, symbolsOf}
+use Rattle.book.specs.Grown.{symbolsOf}
+use Rattle.format.specs.Format.{meaningOf, fields, follow, ended, fieldAt, fieldOf, headAt, pictureField, judgePicture, ascendingBody, rises, ruleField, outcome, judgeRule, judgeSymbol, firstOf, judgeSymbols}
 use Rattle.book.specs.Meant.{rulesOf}
 use Rattle.walk.specs.Walk.{lookAt, moveIn, moveFrom, reported, runFrom, reportsFrom, written}
-use Rattle.walk.proofs.Occurrences.{occurrencesFrom}
+use Rattle.meaning.proofs.Occurrences.{occurrencesFrom}
 use Rattle.numbers.specs.Cases.{All, none, also}
-use Rattle.numbers.specs.Digits.{decimal, hexadecimal, bytesD, digits}
+use Rattle.numbers.specs.Digits.{decimalDigits, hexadecimalDigits, bytesD, digits}
 use Rattle.numbers.proofs.Books.{Means}
 use Rattle.numbers.proofs.Builds.{enough, fewer}
 use Rattle.numbers.proofs.Walks.{isBytes, fitting}
 
 abbrev contentD : Content
-contentD = record { pictures = hexadecimal ∷ decimal ∷ []; rules = (256 ∷ 257 ∷ []) ∷ (257 ∷ 97 ∷ []) ∷ [] }
+contentD = record { pictures = hexadecimalDigits ∷ decimalDigits ∷ []; rules = (256 ∷ 257 ∷ []) ∷ (257 ∷ 97 ∷ []) ∷ [] }
 
 means-D : Means bytesD contentD
-unfolding meaningOf fields follow ended fieldAt fieldOf headAt pictureField judgePicture ascending rises ruleField outcome judgeRule judgeSymbols judgeSymbol firstOf symbolsOf
+unfolding meaningOf fields follow ended fieldAt fieldOf headAt pictureField judgePicture ascendingBody rises ruleField outcome judgeRule judgeSymbols judgeSymbol firstOf symbolsOf
 means-D = record { meant = refl }
 
 -- the rows' texts, the latest byte first

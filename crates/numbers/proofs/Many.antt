@@ -7,10 +7,11 @@ use Rattle.meaning.specs.Rules.{fits, fitsAt, stands}
 use Rattle.meaning.specs.Standing.{level, opens, largest, held, ends, out}
 use Rattle.meaning.specs.Falls.{longest, nextLongest, fitsWith, fallsFrom, falls, fallsIn}
 use Rattle.book.specs.Content.{Content, member}
-use Rattle.book.specs.Numbers.{repeated}
-use Rattle.book.specs.Format.{meaningOf, fields, follow, ended, fieldAt, fieldOf, headAt, ruleField, outcome, judgeRule, judgeSymbol, firstOf, judgeSymbols, symbolsOf}
+use Rattle.format.specs.Largest.{repeated}
+use Rattle.book.specs.Grown.{symbolsOf}
+use Rattle.format.specs.Format.{meaningOf, fields, follow, ended, fieldAt, fieldOf, headAt, ruleField, outcome, judgeRule, judgeSymbol, firstOf, judgeSymbols}
 use Rattle.walk.specs.Walk.{written}
-use Rattle.walk.proofs.Occurrences.{occurrencesFrom}
+use Rattle.meaning.proofs.Occurrences.{occurrencesFrom}
 use Rattle.numbers.specs.Cases.{All, none, also}
 use Rattle.numbers.specs.Many.{bytesM, many}
 use Rattle.numbers.proofs.Books.{Means}

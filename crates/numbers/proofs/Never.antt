@@ -1,10 +1,10 @@
 -- No answer has the number 4: no refusal of the reader, and none of the other numbers. Assumes nothing.
 use mathlib.Core.Logic.{_≢_}
 use native.Mathlib.Omega.{arith}
-use Rattle.book.specs.declared.Answer.{Answer}
-use Rattle.book.specs.declared.Answer.the-variants as answer
-use Rattle.book.specs.Answers.{numberOf}
-use Rattle.book.proofs.Numbers.{number-some}
+use Rattle.format.specs.declared.Answer.{Answer}
+use Rattle.format.specs.declared.Answer.the-variants as answer
+use Rattle.format.specs.Answers.{numberOf}
+use Rattle.format.proofs.Numbers.{number-some}
 use Rattle.build.specs.declared.Built.{Built}
 use Rattle.build.specs.declared.Built.the-variants as built
 use Rattle.build.specs.Promise.{numberOf as numberBuilt}

@@ -14,11 +14,12 @@ use Rattle.book.specs.Limits.{mostRules, mostBytes}
 use Rattle.book.specs.Meant.{rulesOf}
 use Rattle.book.proofs.Tables.{is-table}
 use Rattle.build.specs.Promise.{valueOf}
-use Rattle.walk.proofs.Whole.{built}
-use Rattle.tally.specs.Lines.{linesOf, lineOf, onLine}
-use Rattle.tally.specs.Totals.{Call, after, AllSound, FirstBroken, total, occursIn}
-use Rattle.tally.specs.Written.{startOf}
-use Rattle.tally.proofs.Demands.{refuses, sums}
+use Rattle.listed.proofs.Whole.{built}
+use Rattle.lines.specs.Lines.{linesOf, lineOf, onLine}
+use Rattle.lines.specs.Written.{startOf}
+use Rattle.lines.specs.Profile.{AllSound, FirstBroken}
+use Rattle.summed.specs.Totals.{TallyCall, sumsAfter, totalWhere, occursIn}
+use Rattle.summed.proofs.Demands.{refuses, sums}
 use Rattle.numbers.specs.Cases.{tally, refusal, Holds}
 use Rattle.numbers.proofs.Books.{Means}
 use Rattle.numbers.proofs.Builds.{built-of}
@@ -28,7 +29,7 @@ use Rattle.numbers.proofs.Walks.{isSmall, small}
 
 pub refused : (profile : List ℕ) {i : ℕ} → length profile ≤ mostBytes → FirstBroken (linesOf profile) i → Holds (refusal profile 15 (startOf 0 (linesOf profile) i))
 refused profile {i} short broken b n buffer some lends places =
-    let w : Call = record { tables = b; n = n; profile = profile; sums = buffer } in
+    let w : TallyCall = record { tables = b; n = n; profile = profile; sums = buffer } in
     let a = refuses w .bad-line (record { short = short; some = some; lends = lends; places = places }) i broken in
     record { answers = a; found = refuses w .untouched (λ z. omega (arith, a .number-is, z)) }
 
@@ -42,16 +43,16 @@ are-sound : (ls : List (List ℕ)) → T (areSound ls) → AllSound ls
 are-sound ls x i l e = rw e at (below-at (length ls) (λ i. onLine (lineOf (getD ls i [])) (λ stack count. true) false) x i l)
 
 pub summing : {a : Content} {bytes : List ℕ} → Means bytes a → (profile : List ℕ) → isSmall a profile ≡ true → T (areSound (linesOf profile))
-    → Holds (tally bytes profile 0 0 (table mostRules (λ k. total (occursIn (rulesOf a) k) profile)))
+    → Holds (tally bytes profile 0 0 (table mostRules (λ k. totalWhere (occursIn (rulesOf a) k) profile)))
 summing {a} e profile x lines old b y p z buffer places =
     let (t, lends) = built (built-of (e .meant) p) z in
     let s = small a profile x in
-    let w : Call = record { tables = b; n = valueOf y; profile = profile; sums = buffer } in
+    let w : TallyCall = record { tables = b; n = valueOf y; profile = profile; sums = buffer } in
     let told = sums (rulesOf a) w (record { tables = t; few = s .few; bytes = s .bytes }) in
     let accepted = told .accepts (s .short) lends places (are-sound (linesOf profile) lines) in
-    let long = length-take-le mostRules (after w) (omega (arith, refuses w .long)) in
+    let long = length-take-le mostRules (sumsAfter w) (omega (arith, refuses w .long)) in
     record {
       answers = accepted;
-      sums-are = is-table mostRules (λ k. total (occursIn (rulesOf a) k) profile) (take mostRules (after w)) long (λ k l. getD-take mostRules (after w) k 0 l ∙ told .sums accepted k l);
+      sums-are = is-table mostRules (λ k. totalWhere (occursIn (rulesOf a) k) profile) (take mostRules (sumsAfter w)) long (λ k l. getD-take mostRules (sumsAfter w) k 0 l ∙ told .sums accepted k l);
       later-are = refuses w .later;
     }

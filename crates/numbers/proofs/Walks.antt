@@ -16,16 +16,16 @@ use Rattle.book.specs.Content.{Content}
 use Rattle.book.specs.Limits.{mostRules, mostBytes}
 use Rattle.book.specs.Meant.{rulesOf}
 use Rattle.walk.specs.Walk.{written, numberOf, valuesOf}
-use Rattle.walk.specs.Demands.{Call, answer, after, Over}
-use Rattle.walk.proofs.Occurrences.{occurrences}
-use Rattle.walk.proofs.Demands.{found, roomy, crowded}
-use Rattle.walk.proofs.Whole.{built}
+use Rattle.listed.specs.Demands.{WalkCall, walkAnswer, reportsAfter, OverTables}
+use Rattle.meaning.proofs.Occurrences.{occurrences}
+use Rattle.listed.proofs.Demands.{found, roomy, crowded}
+use Rattle.listed.proofs.Whole.{built}
 use Rattle.numbers.specs.Cases.{Gives, walk, Holds}
 use Rattle.numbers.proofs.Books.{Means}
 use Rattle.numbers.proofs.Builds.{built-of}
 
 -- a walk that is computed whole
-pub gives : {w : Call} {number : ℕ} {values buffer : List ℕ} → numberOf (answer w) ≡ number → valuesOf (answer w) ≡ values → after w ≡ buffer
+pub gives : {w : WalkCall} {number : ℕ} {values buffer : List ℕ} → numberOf (walkAnswer w) ≡ number → valuesOf (walkAnswer w) ≡ values → reportsAfter w ≡ buffer
     → Gives w number values buffer
 gives n v b = record { answers = record { number-is = n; values-are = v }; leaves = b }
 
@@ -60,9 +60,9 @@ small a text e =
 module _ (a : Content) (text : List ℕ) where
   -- two numbers a report
   abbrev many : ℕ
-  many = length (occurrences (rulesOf a) text) / 2
+  many = length (occurrences mostRules (rulesOf a) text) / 2
 
-  over : Small a text → (reports : List ℕ) {b : Five} {n : ℕ} → Tables (rulesOf a) b n → Over (rulesOf a) (record { tables = b; n = n; text = text; reports = reports })
+  over : Small a text → (reports : List ℕ) {b : Five} {n : ℕ} → Tables (rulesOf a) b n → OverTables (rulesOf a) (record { tables = b; n = n; text = text; reports = reports })
   over x reports t = record { tables = t; few = x .few; bytes = x .bytes }
 
   so-many : (x : Small a text) (reports : List ℕ) {b : Five} {n : ℕ} (t : Tables (rulesOf a) b n) → found (over x reports t) .m ≡ many
@@ -71,7 +71,7 @@ module _ (a : Content) (text : List ℕ) where
 module _ {a : Content} {bytes : List ℕ} (e : Means bytes a) {text : List ℕ} (x : isSmall a text ≡ true) {reports : List ℕ} where
   -- with room for the reports
   pub fitting : leb (many a text) (length reports / 2) ≡ true
-      → Holds (walk bytes text reports 0 (many a text ∷ fallsIn (rulesOf a) (reverse text) ∷ held (rulesOf a) (reverse text) ∷ []) (written (occurrences (rulesOf a) text) reports))
+      → Holds (walk bytes text reports 0 (many a text ∷ fallsIn (rulesOf a) (reverse text) ∷ held (rulesOf a) (reverse text) ∷ []) (written (occurrences mostRules (rulesOf a) text) reports))
   fitting l old b y p z =
       let (t, lends) = built (built-of (e .meant) p) z in
       let s = small a text x in

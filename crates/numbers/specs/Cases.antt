@@ -7,10 +7,11 @@ use lib.ListN.{length, take, drop, set, replicate}
 use Rattle.sets.specs.Table.{rowWords}
 use Rattle.meaning.specs.Tables.{Five}
 use Rattle.book.specs.Limits.{mostRules, mostRows}
-use Rattle.build.specs.Promise.{numberOf, valueOf, five, lent, zeroed, Promise}
+use Rattle.lent.specs.Lent.{five, lent, zeroed}
+use Rattle.build.specs.Promise.{numberOf, valueOf, Promise}
 use Rattle.build.specs.declared.Built.{Built}
-use Rattle.walk.specs.Demands.{Call, after, Answers}
-use Rattle.tally.specs.Totals.{Call as TallyCall, after as afterTally, Answers as TallyAnswers}
+use Rattle.listed.specs.Demands.{WalkCall, reportsAfter, WalkAnswers}
+use Rattle.summed.specs.Totals.{TallyCall, sumsAfter, TallyAnswers}
 use Rattle.numbers.specs.Inputs.{bytesA, bytesAA, bytesX, bytesY, aabab, aabbx, aab1, aab1-ab-3, a-01}
 
 -- ---- the table
@@ -78,20 +79,20 @@ pub record Answered (old b : Five) (x : Built) (number value : ℕ) (left : Left
   pub leaves : Leaves left old b
 
 -- a call of the walk gives this answer and this report buffer
-pub record Gives (w : Call) (number : ℕ) (values buffer : List ℕ) : Type 0 where
-  pub answers : Answers w number values
-  pub leaves : after w ≡ buffer
+pub record Gives (w : WalkCall) (number : ℕ) (values buffer : List ℕ) : Type 0 where
+  pub answers : WalkAnswers w number values
+  pub leaves : reportsAfter w ≡ buffer
 
 -- a call of the tally gives this answer and these sums, and later places are as found
 pub record Adds (w : TallyCall) (number value : ℕ) (sums : List ℕ) : Type 0 where
   pub answers : TallyAnswers w number value
-  pub sums-are : take mostRules (afterTally w) ≡ sums
-  pub later-are : drop mostRules (afterTally w) ≡ drop mostRules (w .sums)
+  pub sums-are : take mostRules (sumsAfter w) ≡ sums
+  pub later-are : drop mostRules (sumsAfter w) ≡ drop mostRules (w .sums)
 
 -- a call of the tally is refused so, and the whole sums buffer is as found
 pub record Refused (w : TallyCall) (number value : ℕ) : Type 0 where
   pub answers : TallyAnswers w number value
-  pub found : afterTally w ≡ w .sums
+  pub found : sumsAfter w ≡ w .sums
 
 -- one row, with an entry at `a`
 abbrev pub lone : ℕ → Five

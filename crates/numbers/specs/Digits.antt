@@ -5,16 +5,16 @@ use Rattle.book.specs.Limits.{mostRows}
 use Rattle.numbers.specs.Cases.{Case, build, walk, cleared, tables}
 
 -- 0 to 9
-abbrev pub decimal : List ℕ
-decimal = 48 ∷ 49 ∷ 50 ∷ 51 ∷ 52 ∷ 53 ∷ 54 ∷ 55 ∷ 56 ∷ 57 ∷ []
+abbrev pub decimalDigits : List ℕ
+decimalDigits = 48 ∷ 49 ∷ 50 ∷ 51 ∷ 52 ∷ 53 ∷ 54 ∷ 55 ∷ 56 ∷ 57 ∷ []
 
 -- 0 to 9 and a to f
-abbrev pub hexadecimal : List ℕ
-hexadecimal = decimal ++ 97 ∷ 98 ∷ 99 ∷ 100 ∷ 101 ∷ 102 ∷ []
+abbrev pub hexadecimalDigits : List ℕ
+hexadecimalDigits = decimalDigits ++ 97 ∷ 98 ∷ 99 ∷ 100 ∷ 101 ∷ 102 ∷ []
 
 -- the pictures hexadecimal and decimal; the rules hexadecimal, decimal; decimal, `a`
 abbrev pub bytesD : List ℕ
-bytesD = 0x50 ∷ 0 ∷ 16 ∷ hexadecimal ++ 0x50 ∷ 0 ∷ 10 ∷ decimal ++ 0x52 ∷ 0 ∷ 4 ∷ 1 ∷ 0 ∷ 1 ∷ 1 ∷ 0x52 ∷ 0 ∷ 4 ∷ 1 ∷ 1 ∷ 0 ∷ 97 ∷ []
+bytesD = 0x50 ∷ 0 ∷ 16 ∷ hexadecimalDigits ++ 0x50 ∷ 0 ∷ 10 ∷ decimalDigits ++ 0x52 ∷ 0 ∷ 4 ∷ 1 ∷ 0 ∷ 1 ∷ 1 ∷ 0x52 ∷ 0 ∷ 4 ∷ 1 ∷ 1 ∷ 0 ∷ 97 ∷ []
 
 abbrev pub digits : List Case
 digits =

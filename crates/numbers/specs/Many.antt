@@ -1,7 +1,7 @@
 -- A book of more rules than a word has bits, with its numbers, which were worked out by hand. Assumes nothing.
 use mathlib.Core.List.{List, [], _∷_, _++_}
 use Prim.Native.Nat.{ℕ}
-use Rattle.book.specs.Numbers.{repeated}
+use Rattle.format.specs.Largest.{repeated}
 use Rattle.numbers.specs.Inputs.{bytesA}
 use Rattle.numbers.specs.Cases.{Case, walk}
 

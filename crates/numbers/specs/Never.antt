@@ -1,7 +1,7 @@
 -- The number that is given no more. Assumes nothing.
 use mathlib.Core.Logic.{_≢_}
-use Rattle.book.specs.declared.Answer.{Answer}
-use Rattle.book.specs.Answers.{numberOf}
+use Rattle.format.specs.declared.Answer.{Answer}
+use Rattle.format.specs.Answers.{numberOf}
 use Rattle.build.specs.declared.Built.{Built}
 use Rattle.build.specs.Promise.{numberOf as numberBuilt}
 use Rattle.walk.specs.declared.Walked.{Walked}

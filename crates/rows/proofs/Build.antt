@@ -9,8 +9,9 @@ use native.Mathlib.Decide.{decLt}
 use lib.ListN.{length, getD, length-append, List·getD-append}
 use lib.Seq.{getD-append-seam}
 use Rattle.rows.specs.Rows.{ByteText, Before, none, earlier, last, IsRow, HasRow, Ascending, IsRows, MoreThan}
+use Rattle.rows.specs.Unique.{Congruence}
 use Rattle.rows.proofs.Order.{before-nil, before-trans, before-cons}
-use Rattle.rows.proofs.Rows.{Congruence, distinct, row-before, row-same, row-append}
+use Rattle.rows.proofs.Rows.{distinct, row-before, row-same, row-append}
 
 pub byte-cons : (c : ℕ) (t : List ℕ) → c < 256 → ByteText t → ByteText (c ∷ t)
 byte-cons c t l b zero = l
@@ -146,7 +147,7 @@ module _ {Same : List ℕ → List ℕ → Type 0} (S : Congruence Same) where
       crowded =
           record {
             texts = ts ++ (c ∷ getD ts s []) ∷ [];
-            count = length-snoc ts (c ∷ getD ts s []);
+            long = length-snoc ts (c ∷ getD ts s []);
             bytes = longer .bytes;
             different = distinct longer;
           }

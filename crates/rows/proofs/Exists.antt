@@ -8,8 +8,8 @@ use native.Mathlib.Omega.{arith}
 use native.Mathlib.Decide.{decLt}
 use lib.ListN.{length, getD}
 use Rattle.rows.specs.Rows.{HasRow, MoreThan, AtMost}
+use Rattle.rows.specs.Unique.{Congruence, Exists}
 use Rattle.rows.proofs.Build.{Partial, start, found, added, crowded, next, finish, length-snoc}
-use Rattle.rows.proofs.Rows.{Congruence}
 
 module _ {Same : List ℕ → List ℕ → Type 0} (S : Congruence Same) (decide : (t u : List ℕ) → Dec (Same t u)) where
   look : (ts : List (List ℕ)) (t : List ℕ) (k : ℕ) → k ≤ length ts → HasRow Same ts t ⊎ ((i : ℕ) → i < k → ¬ Same t (getD ts i []))
@@ -51,8 +51,8 @@ module _ {Same : List ℕ → List ℕ → Type 0} (S : Congruence Same) (decide
 
   -- the empty text has a standing
   some-standing : MoreThan Same 0
-  some-standing = record { texts = [] ∷ []; count = refl; bytes = start S .ascending .bytes; different = λ i j l m. absurd (omega arith) }
+  some-standing = record { texts = [] ∷ []; long = refl; bytes = start S .ascending .bytes; different = λ i j l m. absurd (omega arith) }
 
-  pub exists : (n : ℕ) → MoreThan Same n ⊎ AtMost Same n
-  exists zero = inl some-standing
-  exists (suc n) = rows (suc n) (suc n) (omega arith) (start S) (omega arith)
+pub exists : Exists
+exists Same S decide zero = inl (some-standing S decide)
+exists Same S decide (suc n) = rows S decide (suc n) (suc n) (omega arith) (start S) (omega arith)

@@ -1,6 +1,6 @@
 -- `Before` is a strict total order on texts, and it is the order that the paper states: `shortlex`. Assumes nothing.
 use mathlib.Core.Path.{_≡_, refl, sym, ap, _∙_}
-use mathlib.Core.Logic.{_⊎_, inl, inr, _↔_}
+use mathlib.Core.Logic.{_⊎_, inl, inr}
 use mathlib.Core.List.{List, [], _∷_, _++_, append-assoc, reverse, reverse-cons, reverse-append, reverse-reverse}
 use Prim.Native.Nat.{ℕ, _<_}
 use native.Mathlib.Omega.{arith}
@@ -8,6 +8,7 @@ use native.Mathlib.Nat.{lt-trans}
 use lib.ListN.{length, length-reverse}
 use Rattle.rows.proofs.Compare.{less, equal, more, order}
 use Rattle.rows.specs.Rows.{Before, none, earlier, last}
+use Rattle.rows.specs.Shortlex.{Smaller, Shortlex, Total}
 
 apart : {t u : List ℕ} → Before t u → ¬ (t ≡ u)
 apart none e = let z : _≡_ {A = ℕ} 0 1 = cc in omega arith
@@ -33,7 +34,7 @@ before-trans (earlier a) (last l) = earlier a
 before-trans (last l) (earlier b) = earlier b
 before-trans (last l) (last m) = last (lt-trans l m)
 
-pub before-total : (t u : List ℕ) → Before t u ⊎ (t ≡ u) ⊎ Before u t
+pub before-total : Total
 before-total [] [] = inr (inl refl)
 before-total [] (d ∷ u) = inl none
 before-total (c ∷ t) [] = inr (inr none)
@@ -57,18 +58,6 @@ shorter (c ∷ t) (d ∷ u) l = earlier (shorter t u (omega arith))
 pub before-cons : (c : ℕ) (t : List ℕ) → Before t (c ∷ t)
 before-cons c t = shorter t (c ∷ t) (omega arith)
 
--- Of equal length, equal up to a place as they are read, and there t has the smaller byte.
-pub record Smaller (t u : List ℕ) : Type 0 where
-  pub alike : List ℕ
-  pub a : ℕ
-  pub b : ℕ
-  pub rest : List ℕ
-  pub rest′ : List ℕ
-  pub less : a < b
-  pub long : length rest ≡ length rest′
-  pub first : t ≡ alike ++ a ∷ rest
-  pub second : u ≡ alike ++ b ∷ rest′
-
 reverse-middle : (x y : List ℕ) (a : ℕ) → reverse (x ++ a ∷ y) ≡ reverse y ++ a ∷ reverse x
 reverse-middle x y a = reverse-append x (a ∷ y) ∙ ap (λ (l : List ℕ). l ++ reverse x) (reverse-cons a y) ∙ append-assoc (reverse y) (a ∷ []) (reverse x)
 
@@ -88,8 +77,7 @@ found (earlier {c} {d} l) =
     ]
 found (last {c} {d} {t} l) = inr ([], [], t, c, d, l, refl, refl, refl)
 
--- on texts in reading order
-pub shortlex : (t u : List ℕ) → Before (reverse t) (reverse u) ↔ ((length t < length u) ⊎ Smaller t u)
+pub shortlex : Shortlex
 shortlex t u = (to, from)
   where
     to : Before (reverse t) (reverse u) → (length t < length u) ⊎ Smaller t u

@@ -1,24 +1,18 @@
--- Equality of standings, as far as rows need it; a text has one row, row 0 is the empty text, the rows are unique, and where they are at most n
+-- A text has one row, row 0 is the empty text, the rows are unique, and where they are at most n
 -- there are not more than n standings. Assumes nothing.
 use mathlib.Core.Path.{_≡_, sym}
 use mathlib.Core.Logic.{inl, inr}
-use mathlib.Core.List.{List, [], _∷_, _++_}
+use mathlib.Core.List.{List, [], _++_}
 use Prim.Native.Nat.{ℕ, zero, suc, _≤_, _<_}
 use native.Mathlib.Omega.{arith}
 use native.Mathlib.Decide.{decLt}
 use lib.ListN.{length, getD, length-append, List·getD-append}
 use lib.Seq.{ext-getD}
 use Rattle.rows.specs.Rows.{ByteText, Before, IsRow, Ascending, IsRows, MoreThan, AtMost}
+use Rattle.rows.specs.Unique.{Congruence, Settles}
 use Rattle.rows.proofs.Compare.{less, equal, more, order}
 use Rattle.rows.proofs.Order.{before-nil, before-trans, before-total}
 use Rattle.rows.proofs.Pigeon.{pigeon}
-
--- What is used of equality of standings: it is an equality, and one byte more keeps it.
-pub record Congruence (Same : List ℕ → List ℕ → Type 0) : Type 0 where
-  pub same : (t : List ℕ) → Same t t
-  pub flip : {t u : List ℕ} → Same t u → Same u t
-  pub join : {t u v : List ℕ} → Same t u → Same u v → Same t v
-  pub more : (c : ℕ) {t u : List ℕ} → Same t u → Same (c ∷ t) (c ∷ u)
 
 module _ {Same : List ℕ → List ℕ → Type 0} {ts : List (List ℕ)} (a : Ascending Same ts) where
   pub distinct : (i j : ℕ) → i < j → j < length ts → ¬ Same (getD ts i []) (getD ts j [])
@@ -70,7 +64,7 @@ module _ {Same : List ℕ → List ℕ → Type 0} (S : Congruence Same) where
       pigeon (length us) (length (a .texts)) (λ i k. Same (getD us i []) (getD (a .texts) k []))
       (λ i b. let f = a .rows .complete (getD us i []) (m .bytes i b) in (f .0, f .1 .below, f .1 .same))
       (λ i j k b c p q. m .different i j b c (S .join p (S .flip q)))
-      in omega (arith, m .count, a .few)
+      in omega (arith, m .long, a .few)
 
   module _ {ts us : List (List ℕ)} (a : IsRows Same ts) (b : IsRows Same us) where
     -- Each text of ts stands in us.
@@ -109,3 +103,6 @@ module _ {Same : List ℕ → List ℕ → Type 0} (S : Congruence Same) where
 
   pub unique : {ts us : List (List ℕ)} → IsRows Same ts → IsRows Same us → ts ≡ us
   unique {ts} {us} a b = ext-getD [] ts us (omega (arith, at-most a b, at-most b a)) (λ i l. agree a b i l .1)
+
+pub settles : Settles
+settles Same S = record { one-row = one-row S; root = root S; unique = unique S; not-both = not-both S }

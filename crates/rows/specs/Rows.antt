@@ -39,7 +39,7 @@ module _ (Same : List ℕ → List ℕ → Type 0) where
   -- There are more than n standings: n + 1 texts, no two of the same.
   pub record MoreThan (n : ℕ) : Type 0 where
     pub texts : List (List ℕ)
-    pub count : length texts ≡ suc n
+    pub long : length texts ≡ suc n
     pub bytes : (i : ℕ) → i < length texts → ByteText (getD texts i [])
     pub different : (i j : ℕ) → i < j → j < length texts → ¬ Same (getD texts i []) (getD texts j [])
 

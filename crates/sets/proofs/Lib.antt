@@ -3,3 +3,5 @@ pub mod Members
 pub mod Writing
 pub mod InWords
 pub mod Table
+pub mod Among
+pub mod Sums

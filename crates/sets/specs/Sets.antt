@@ -1,10 +1,10 @@
 -- Sets of numbers, each as one number: k is in the set where the bit k is set. Assumes nothing.
 use mathlib.Core.Bool.{Bool, true, false, cond, _||_}
-use mathlib.Core.List.{List, [], _∷_, map}
+use mathlib.Core.List.{List, [], _∷_, _++_, map}
 use Prim.Native.Nat.{ℕ, zero, suc, _+_, _-_, _*_, _/_, _%_, _^_, min}
 use lib.Dec.{eqb}
 use lib.Bits.{bitOr}
-use lib.ListN.{length, getD, drop}
+use lib.ListN.{length, getD, take, drop}
 
 -- whether k is in the set s
 unfoldable pub has : ℕ → ℕ → Bool
@@ -32,6 +32,11 @@ those p i (suc n) = keep (p i) i (those p (suc i) n)
 -- the members below n of the set s, ascending
 unfoldable pub members : ℕ → ℕ → List ℕ
 members n s = those (has s) 0 n
+
+-- whether k is in a list
+unfoldable pub among : ℕ → List ℕ → Bool
+among k [] = false
+among k (j ∷ js) = eqb j k || among k js
 
 -- the set that words of 64 bits make, lowest first: the member 64 * i + k is bit k of word i
 unfoldable pub setOf : List ℕ → ℕ
@@ -63,3 +68,11 @@ reports e (k ∷ ks) = e ∷ k ∷ reports e ks
 -- how many pairs have room in a buffer of n places, from place i on
 abbrev pub pairsFrom : ℕ → ℕ → ℕ
 pairsFrom n i = (n - i) / 2
+
+-- the members of a word whose pairs have room there
+abbrev pub withRoom : ℕ → ℕ → ℕ → List ℕ
+withRoom n i s = take (pairsFrom n i) (members 64 s)
+
+-- a buffer with new entries in place of those from i to j
+abbrev pub replaced : ℕ → ℕ → List ℕ → List ℕ → List ℕ
+replaced i j new old = take i old ++ new ++ drop j old

@@ -5,7 +5,8 @@ use book::Book;
 use inputs::Both;
 ghost use Prim.Native.Nat.{_*_, _≤_};
 ghost use lib.ListN.{length, take};
-ghost use Rattle.build.specs.Promise.{five};
+ghost use Rattle.moments.specs.Moments.{was, left};
+ghost use Rattle.lent.specs.Lent.{five};
 ghost use Rattle.output.specs.Printed.{Puts};
 ghost use Rattle.summer.specs.Summing.{sumLine, sumLines, PutsTotal, sumsRoom, SummerAnswer};
 
@@ -32,8 +33,8 @@ fn sum(book: &[u8], profile: &[u8]) {
 // Builds the book's tables, has the profile tallied over them, and puts the lines of both.
 fn put_answer(book: &[u8], profile: &[u8], answer: &mut [u8]) -> usize
     requires { ⌜ sumsRoom ≤ length (now answer) ⌝ }
-    ensures { λ r. ⌜ r ≤ length (now (answer .exit)) ⌝ }
-    ensures { λ r. ⌜ SummerAnswer (now (book .entry)) (now (profile .entry)) (take r (now (answer .exit))) ⌝ }
+    ensures { λ r. ⌜ r ≤ length (left answer) ⌝ }
+    ensures { λ r. ⌜ SummerAnswer (was book) (was profile) (take r (left answer)) ⌝ }
 {
     let mut goto = [0u16; inputs::ENTRIES];
     let mut fall = [0u16; inputs::ROWS];
@@ -70,7 +71,7 @@ fn total(
     answer: &mut [u8],
     at: usize,
 ) -> usize
-    ensures { λ r. ⌜ PutsTotal (five (now (goto .entry)) (now (fall .entry)) (now (held .entry)) (now (live .entry)) (now (out .entry))) rows (now (profile .entry)) (now (answer .entry)) at (now (answer .exit)) r ⌝ }
+    ensures { λ r. ⌜ PutsTotal (five (was goto) (was fall) (was held) (was live) (was out)) rows (was profile) (was answer) at (left answer) r ⌝ }
 {
     let mut sums = [0u64; Book::RULES];
     let tallied = tally::tally(goto, fall, held, live, out, rows, profile, &mut sums);
@@ -82,8 +83,8 @@ fn total(
 
 // Puts a line for each sum that is not 0.
 fn show(sums: &[u64], answer: &mut [u8], at: usize) -> usize
-    ensures { λ _. ⌜ length (sumLines 0 (now (sums .entry))) ≤ 42 * length (now (sums .entry)) ⌝ }
-    ensures { λ r. ⌜ Puts (sumLines 0 (now (sums .entry))) (now (answer .entry)) at (now (answer .exit)) r ⌝ }
+    ensures { λ _. ⌜ length (sumLines 0 (was sums)) ≤ 42 * length (was sums) ⌝ }
+    ensures { λ r. ⌜ Puts (sumLines 0 (was sums)) (was answer) at (left answer) r ⌝ }
 {
     let mut to = at;
     let mut rule = 0;
@@ -96,7 +97,7 @@ fn show(sums: &[u64], answer: &mut [u8], at: usize) -> usize
 
 // Puts the rule and its sum, where that is not 0.
 fn show_sum(rule: u64, sum: u64, answer: &mut [u8], at: usize) -> usize
-    ensures { λ r. ⌜ Puts (sumLine rule sum) (now (answer .entry)) at (now (answer .exit)) r ⌝ }
+    ensures { λ r. ⌜ Puts (sumLine rule sum) (was answer) at (left answer) r ⌝ }
 {
     if sum == 0 {
         return at;

@@ -11,11 +11,11 @@ use lib.ListN.{length, getD, set, replicate, length-set}
 use lib.Seq.{getD-set-same, getD-set-other}
 use Rattle.sets.specs.Sets.{has, members}
 use Rattle.book.specs.Limits.{mostRules, mostBytes}
-use Rattle.tally.specs.Lines.{mostCount}
+use Rattle.lines.specs.Lines.{mostCount}
 use Rattle.tally.specs.Tally.{addAll}
-use Rattle.tally.specs.Totals.{among}
+use Rattle.sets.specs.Sets.{among}
 use Rattle.tally.specs.Passes.{Room}
-use Rattle.tally.proofs.Among.{Apart, among-members, apart-members}
+use Rattle.sets.proofs.Among.{Apart, among-members, apart-members}
 
 pub add-append : (count : ℕ) (js ks sums : List ℕ) → addAll count (js ++ ks) sums ≡ addAll count ks (addAll count js sums)
 unfolding addAll

@@ -8,9 +8,9 @@ use lib.ListN.{length}
 use Rattle.meaning.specs.Tables.{Five}
 use Rattle.book.specs.Limits.{mostRules, mostBytes}
 use Rattle.walk.specs.Walk.{hasRows}
-use Rattle.tally.specs.declared.Pass.{Pass}
+use Rattle.lines.specs.declared.Pass.{Pass}
 use Rattle.tally.specs.declared.Tallied.the-variants.{Accepted}
-use Rattle.tally.specs.Lines.{checkOf}
+use Rattle.lines.specs.Lines.{checkOf}
 use Rattle.tally.specs.Tally.{linesPass, moveBy, judged, walked, tallyOf}
 
 -- of one that reaches its lines, where the pass over them r is q

@@ -12,14 +12,14 @@ use Rattle.sets.specs.Sets.{members}
 use Rattle.sets.proofs.Members.{members-empty, members-le}
 use Rattle.book.specs.Limits.{mostRules}
 use Rattle.walk.specs.declared.Moved.{Moved}
-use Rattle.tally.specs.declared.Line.{Line}
-use Rattle.tally.specs.declared.Line.the-variants.{Sound, Broken}
-use Rattle.tally.specs.declared.Pass.the-variants.{Through, Ends}
-use Rattle.tally.specs.Lines.{lf, semicolon, split, linesOf, framesOf, upTo, onPass, passOver, lineOf, onLine}
+use Rattle.lines.specs.declared.Line.{Line}
+use Rattle.lines.specs.declared.Line.the-variants.{Sound, Broken}
+use Rattle.lines.specs.declared.Pass.the-variants.{Through, Ends}
+use Rattle.lines.specs.Lines.{lf, semicolon, split, linesOf, framesOf, upTo, onPass, passOver, lineOf, onLine}
 use Rattle.tally.specs.Tally.{addAll, afterMove, passFrom, rulesFrom, framePass, frameRules, rulesOver, stackPass, stackRules, linePass, lineSums, sumsOver, linesSums}
-use Rattle.tally.specs.Totals.{framesIn, countIn}
+use Rattle.lines.specs.Profile.{framesIn, countIn}
 use Rattle.tally.specs.Passes.{Room}
-use Rattle.tally.proofs.Lines.{piece, Step, step, pieces-end, pieces-pass, lines-step, count-right}
+use Rattle.lines.proofs.Lines.{piece, Step, step, pieces-end, pieces-pass, lines-step, count-right}
 use Rattle.tally.proofs.Adding.{length-add, room-add}
 
 -- ---- passes

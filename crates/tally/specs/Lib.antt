@@ -1,6 +1,3 @@
--- What the contracts of `tally` cite (Lines, Tally; Passes, for inner functions only), and the theorems' statements (Written, Totals). Assumes nothing.
-pub mod Lines
-pub mod Written
+-- What the contracts of `tally` cite: Tally; Passes, for inner functions only. Assumes nothing.
 pub mod Tally
 pub mod Passes
-pub mod Totals

@@ -3,20 +3,23 @@
 use mathlib.Core.Bool.{cond}
 use mathlib.Core.List.{List, [], _∷_}
 use Prim.Native.Nat.{ℕ, _+_}
+use denote.Ref.{RefT}
+use denote.Triple.Both.{Both}
 use lib.Bits.{bitOr}
 use lib.Dec.{ltb}
 use lib.ListN.{length, getD, set, take, replicate}
+use Rattle.moments.specs.Moments.{was}
 use Rattle.sets.specs.Sets.{members}
 use Rattle.meaning.specs.Tables.{Five}
 use Rattle.book.specs.Limits.{mostRules, mostBytes}
 use Rattle.walk.specs.declared.Moved.{Moved}
 use Rattle.walk.specs.declared.Moved.the-variants.{Reached, Lost}
 use Rattle.walk.specs.Walk.{moveOf, written, hasRows}
-use Rattle.tally.specs.declared.Pass.{Pass}
-use Rattle.tally.specs.declared.Pass.the-variants.{Through, Ends}
+use Rattle.lines.specs.declared.Pass.{Pass}
+use Rattle.lines.specs.declared.Pass.the-variants.{Through, Ends}
 use Rattle.tally.specs.declared.Tallied.{Tallied}
 use Rattle.tally.specs.declared.Tallied.the-variants.{Accepted, TooLong, BadRows, FewSums, BadLine, Damaged}
-use Rattle.tally.specs.Lines.{linesOf, framesOf, passOver, lineOf, onLine, checkOf}
+use Rattle.lines.specs.Lines.{linesOf, framesOf, passOver, lineOf, onLine, checkOf}
 
 -- ---- what is added
 
@@ -89,7 +92,11 @@ module _ (move : ℕ → ℕ → Moved) (rules : ℕ → ℕ) where
 
 -- one byte's move over the tables
 abbrev pub moveBy : Five → ℕ → ℕ → ℕ → Moved
-moveBy b n = moveOf (b .goto) (b .fall) (b .out) n
+moveBy b n = moveOf (b .goto) (b .fall) n
+
+-- over those that a function is lent
+abbrev pub movesOver : {X Y : Type 0} → Both (RefT (List ℕ)) X → Both (RefT (List ℕ)) Y → ℕ → ℕ → ℕ → Moved
+movesOver goto fall n = moveOf (was goto) (was fall) n
 
 -- A line that breaks the rules is refused, and a walk that is lost; else comes what is next.
 abbrev pub judged : Pass → Tallied → Tallied

@@ -1,46 +1,23 @@
-// The tally over a folded profile: its lines, the frames of a line's stack, the walk of each frame, and what is added.
+// The tally over a folded profile: the walk of each frame of each line's stack, and what is added.
 
 use book::Book;
-use sets::WORDS;
+use lines::LF;
+use lines::Line;
+use lines::Pass;
+use lines::SEMICOLON;
+use words::WORDS;
 ghost use mathlib.Core.Path.{_≡_};
 ghost use Prim.Native.Nat.{_+_, _-_, _*_, _≤_, _<_};
-ghost use lib.Bits.{bitOr};
 ghost use lib.ListN.{length, drop};
+ghost use Rattle.moments.specs.Moments.{was, left};
 ghost use Rattle.sets.specs.Sets.{members, setOf, plusEach};
 ghost use Rattle.sets.specs.Table.{rowWords, rulesAt};
 ghost use Rattle.book.specs.Limits.{mostRules, mostBytes};
-ghost use Rattle.build.specs.Promise.{five};
-ghost use Rattle.walk.specs.Walk.{moveOf, written};
-ghost use Rattle.tally.specs.Lines.{mostCount, upTo, lastOf, countOf, lineOf, checkOf};
-ghost use Rattle.tally.specs.Tally.{addAll, framePass, frameRules, stackPass, stackRules, linePass, lineSums, linesPass, linesSums, sumsOf, tallyOf, bufferOf, numberOf, valueOf};
-ghost use Rattle.tally.specs.Passes.{Room, After};
-
-const LF: u8 = 10;
-
-const SPACE: u8 = 32;
-
-const SEMICOLON: u8 = 59;
-
-// The largest count of a line.
-const MOST_COUNT: u64 = 4294967295;
-
-// A count, or what is none.
-enum Count {
-    Is(u64),
-    Not,
-}
-
-// A line: how many bytes its stack has, and its count; or one that breaks the rules.
-enum Line {
-    Sound { stack: usize, count: u64 },
-    Broken,
-}
-
-// A pass over some bytes: it gets through, or ends at an offset.
-enum Pass {
-    Through,
-    Ends { at: usize },
-}
+ghost use Rattle.lent.specs.Lent.{five};
+ghost use Rattle.walk.specs.Walk.{written};
+ghost use Rattle.lines.specs.Lines.{mostCount};
+ghost use Rattle.tally.specs.Tally.{addAll, movesOver, framePass, frameRules, stackPass, stackRules, linePass, lineSums, linesPass, linesSums, sumsOf, tallyOf, bufferOf, numberOf, valueOf};
+ghost use Rattle.tally.specs.Passes.{Room, After, Unites};
 
 // The tally's answer. `numberOf` and `valueOf` of specs/ give each case's number and value.
 pub enum Tallied {
@@ -82,139 +59,25 @@ impl Tallied {
     }
 }
 
-// ---- lines
-
-// The place of the first `mark` from `from` on, or the length.
-fn find(text: &[u8], from: usize, mark: u8) -> usize
-    requires { ⌜ from ≤ length (now text) ⌝ }
-    ensures { λ r. ⌜ (r ≡ from + upTo mark (drop from (now (text .entry)))) × (r ≤ length (now (text .entry))) ⌝ }
-{
-    let mut at = from;
-    while at < text.len() {
-        if text[at] == mark {
-            return at;
-        }
-        at += 1;
-    }
-    at
-}
-
-// The place of the last `mark`, or the length.
-fn find_last(text: &[u8], mark: u8) -> usize
-    ensures { λ r. ⌜ (r ≡ lastOf mark (now (text .entry))) × (r ≤ length (now (text .entry))) ⌝ }
-{
-    let mut last = text.len();
-    let mut at = 0;
-    while at < text.len() {
-        if text[at] == mark {
-            last = at;
-        }
-        at += 1;
-    }
-    last
-}
-
-fn digit(byte: u8) -> u64
-    requires { ⌜ 48 ≤ byte ⌝ }
-    ensures { λ r. ⌜ (r ≡ byte - 48) × (r < 256) ⌝ }
-{
-    (byte - 48) as u64
-}
-
-// Reads a count: `0`, or 1 to 10 digits without a leading zero, at most MOST_COUNT.
-fn read_count(digits: &[u8]) -> Count
-    ensures { λ r. ⌜ r ≡ countOf (now (digits .entry)) ⌝ }
-{
-    if digits.len() == 0 {
-        return Count::Not;
-    }
-    if 10 < digits.len() {
-        return Count::Not;
-    }
-    if digits[0] == 48 {
-        if digits.len() == 1 {
-            return Count::Is(0);
-        }
-        return Count::Not;
-    }
-    let mut value: u64 = 0;
-    let mut at = 0;
-    while at < digits.len() {
-        let byte = digits[at];
-        if byte < 48 {
-            return Count::Not;
-        }
-        if 57 < byte {
-            return Count::Not;
-        }
-        let next = digit(byte);
-        // The limit, in this one place: 10 * value + next is made only where it is at most MOST_COUNT.
-        if (MOST_COUNT - next) / 10 < value {
-            return Count::Not;
-        }
-        value = 10 * value + next;
-        at += 1;
-    }
-    Count::Is(value)
-}
-
-// Reads a line: the stack is all in front of its last space, the count all behind.
-fn read_line(line: &[u8]) -> Line
-    ensures { λ r. ⌜ r ≡ lineOf (now (line .entry)) ⌝ }
-{
-    let space = find_last(line, SPACE);
-    if space == 0 {
-        return Line::Broken;
-    }
-    if space == line.len() {
-        return Line::Broken;
-    }
-    match read_count(&line[space + 1..]) {
-        Count::Is(count) => Line::Sound {
-            stack: space,
-            count,
-        },
-        Count::Not => Line::Broken,
-    }
-}
-
-// The first pass: ends at the first line that breaks the rules.
-fn check(profile: &[u8]) -> Pass
-    requires { ⌜ length (now profile) ≤ mostBytes ⌝ }
-    ensures { λ r. ⌜ r ≡ checkOf (now (profile .entry)) ⌝ }
-{
-    let mut at = 0;
-    while at < profile.len() {
-        let end = find(profile, at, LF);
-        match read_line(&profile[at..end]) {
-            Line::Sound { stack: _, count: _ } => {
-                at = end + 1;
-            }
-            Line::Broken => return Pass::Ends { at },
-        }
-    }
-    Pass::Through
-}
-
 // ---- walks
 
 // Adds the count to the sum of each rule of a word of a set, whose first is rule `base`.
 fn add_word(word: u64, base: usize, count: u64, sums: &mut [u64; Book::RULES])
     requires { ⌜ (count ≤ mostCount) × (base + 64 ≤ mostRules) × Room (length (members 64 word)) (now sums) ⌝ }
-    ensures { λ _. ⌜ now (sums .exit) ≡ addAll count (plusEach base (members 64 word)) (now (sums .entry)) ⌝ }
+    ensures { λ _. ⌜ left sums ≡ addAll count (plusEach base (members 64 word)) (was sums) ⌝ }
 {
     let mut left = word;
     while left != 0 {
-        let k = base + sets::first(left) as usize;
+        let k = base + bits::first(left) as usize;
         sums[k] += count;
-        left = sets::rest(left);
+        left = bits::rest(left);
     }
 }
 
 // Adds the count to the sum of each rule of a set.
 fn add(set: &[u64], count: u64, sums: &mut [u64; Book::RULES])
     requires { ⌜ (count ≤ mostCount) × (length (now set) ≡ rowWords) × Room mostRules (now sums) ⌝ }
-    ensures { λ _. ⌜ now (sums .exit) ≡ addAll count (members mostRules (setOf (now (set .entry)))) (now (sums .entry)) ⌝ }
+    ensures { λ _. ⌜ left sums ≡ addAll count (members mostRules (setOf (was set))) (was sums) ⌝ }
 {
     let mut i: usize = 0;
     while i < WORDS {
@@ -234,19 +97,19 @@ fn walk_frame(
     seen: &mut [u64],
 ) -> Pass
     requires { ⌜ (base + length (now frame) ≤ mostBytes) × (length (now seen) ≡ rowWords) ⌝ }
-    ensures pass { λ r. ⌜ r ≡ framePass (moveOf (now (goto .entry)) (now (fall .entry)) (now (out .entry)) n) base (now (frame .entry)) ⌝ }
-    ensures sees { λ r. ⌜ After r (setOf (now (seen .exit))) (bitOr (setOf (now (seen .entry))) (frameRules (moveOf (now (goto .entry)) (now (fall .entry)) (now (out .entry)) n) (rulesAt (now (out .entry))) (now (frame .entry)))) ⌝ }
+    ensures pass { λ r. ⌜ r ≡ framePass (movesOver goto fall n) base (was frame) ⌝ }
+    ensures sees { λ r. ⌜ Unites r (was seen) (left seen) (frameRules (movesOver goto fall n) (rulesAt (was out)) (was frame)) ⌝ }
 {
     let mut row = 0;
     let mut at = 0;
     while at < frame.len() {
-        match walk::move_on(goto, fall, out, n, row, frame[at]) {
+        match walk::move_on(goto, fall, n, row, frame[at]) {
             walk::Moved::Reached {
                 row: next,
                 falls: _,
             } => {
                 let rules = walk::rules(out, next);
-                sets::unite(seen, &rules);
+                words::unite(seen, &rules);
                 row = next;
                 at += 1;
             }
@@ -267,12 +130,12 @@ fn walk_stack(
     seen: &mut [u64],
 ) -> Pass
     requires { ⌜ (base + length (now stack) ≤ mostBytes) × (length (now seen) ≡ rowWords) ⌝ }
-    ensures pass { λ r. ⌜ r ≡ stackPass (moveOf (now (goto .entry)) (now (fall .entry)) (now (out .entry)) n) base (now (stack .entry)) ⌝ }
-    ensures sees { λ r. ⌜ After r (setOf (now (seen .exit))) (bitOr (setOf (now (seen .entry))) (stackRules (moveOf (now (goto .entry)) (now (fall .entry)) (now (out .entry)) n) (rulesAt (now (out .entry))) (now (stack .entry)))) ⌝ }
+    ensures pass { λ r. ⌜ r ≡ stackPass (movesOver goto fall n) base (was stack) ⌝ }
+    ensures sees { λ r. ⌜ Unites r (was seen) (left seen) (stackRules (movesOver goto fall n) (rulesAt (was out)) (was stack)) ⌝ }
 {
     let mut at = 0;
     while at < stack.len() {
-        let end = find(stack, at, SEMICOLON);
+        let end = lines::find(stack, at, SEMICOLON);
         match walk_frame(goto, fall, out, n, &stack[at..end], base + at, seen) {
             Pass::Through => {
                 at = end + 1;
@@ -294,12 +157,12 @@ fn walk_line(
     sums: &mut [u64; Book::RULES],
 ) -> Pass
     requires { ⌜ (base + length (now line) ≤ mostBytes) × Room mostRules (now sums) ⌝ }
-    ensures pass { λ r. ⌜ r ≡ linePass (moveOf (now (goto .entry)) (now (fall .entry)) (now (out .entry)) n) base (now (line .entry)) ⌝ }
-    ensures adds { λ r. ⌜ After r (now (sums .exit)) (lineSums (moveOf (now (goto .entry)) (now (fall .entry)) (now (out .entry)) n) (rulesAt (now (out .entry))) (now (line .entry)) (now (sums .entry))) ⌝ }
+    ensures pass { λ r. ⌜ r ≡ linePass (movesOver goto fall n) base (was line) ⌝ }
+    ensures adds { λ r. ⌜ After r (left sums) (lineSums (movesOver goto fall n) (rulesAt (was out)) (was line) (was sums)) ⌝ }
 {
-    match read_line(line) {
+    match lines::read_line(line) {
         Line::Sound { stack, count } => {
-            let mut seen = sets::none();
+            let mut seen = words::none();
             match walk_stack(goto, fall, out, n, &line[..stack], base, &mut seen) {
                 Pass::Through => {
                     add(&seen, count, sums);
@@ -322,12 +185,12 @@ fn walk_lines(
     sums: &mut [u64; Book::RULES],
 ) -> Pass
     requires { ⌜ (length (now profile) ≤ mostBytes) × Room (mostRules * length (now profile)) (now sums) ⌝ }
-    ensures pass { λ r. ⌜ r ≡ linesPass (moveOf (now (goto .entry)) (now (fall .entry)) (now (out .entry)) n) (now (profile .entry)) ⌝ }
-    ensures adds { λ r. ⌜ After r (now (sums .exit)) (linesSums (moveOf (now (goto .entry)) (now (fall .entry)) (now (out .entry)) n) (rulesAt (now (out .entry))) (now (profile .entry)) (now (sums .entry))) ⌝ }
+    ensures pass { λ r. ⌜ r ≡ linesPass (movesOver goto fall n) (was profile) ⌝ }
+    ensures adds { λ r. ⌜ After r (left sums) (linesSums (movesOver goto fall n) (rulesAt (was out)) (was profile) (was sums)) ⌝ }
 {
     let mut at = 0;
     while at < profile.len() {
-        let end = find(profile, at, LF);
+        let end = lines::find(profile, at, LF);
         match walk_line(goto, fall, out, n, &profile[at..end], at, sums) {
             Pass::Through => {
                 at = end + 1;
@@ -343,7 +206,7 @@ fn walk_lines(
 // The new sums in front of the buffer.
 fn store(new: &[u64; Book::RULES], sums: &mut [u64])
     requires { ⌜ (length (now new) ≡ mostRules) × (mostRules ≤ length (now sums)) ⌝ }
-    ensures { λ _. ⌜ now (sums .exit) ≡ written (now (new .entry)) (now (sums .entry)) ⌝ }
+    ensures { λ _. ⌜ left sums ≡ written (was new) (was sums) ⌝ }
 {
     let mut at: usize = 0;
     while at < Book::RULES {
@@ -363,8 +226,8 @@ pub fn tally(
     profile: &[u8],
     sums: &mut [u64],
 ) -> Tallied
-    ensures answer { λ r. ⌜ r ≡ tallyOf (five (now (goto .entry)) (now (fall .entry)) (now (held .entry)) (now (live .entry)) (now (out .entry))) n (now (profile .entry)) (length (now (sums .entry))) ⌝ }
-    ensures buffer { λ r. ⌜ now (sums .exit) ≡ bufferOf r (sumsOf (moveOf (now (goto .entry)) (now (fall .entry)) (now (out .entry)) n) (rulesAt (now (out .entry))) (now (profile .entry))) (now (sums .entry)) ⌝ }
+    ensures answer { λ r. ⌜ r ≡ tallyOf (five (was goto) (was fall) (was held) (was live) (was out)) n (was profile) (length (was sums)) ⌝ }
+    ensures buffer { λ r. ⌜ left sums ≡ bufferOf r (sumsOf (movesOver goto fall n) (rulesAt (was out)) (was profile)) (was sums) ⌝ }
 {
     if Book::TEXT < profile.len() {
         return Tallied::TooLong;
@@ -375,7 +238,7 @@ pub fn tally(
     if sums.len() < Book::RULES {
         return Tallied::FewSums { places: sums.len() };
     }
-    match check(profile) {
+    match lines::check(profile) {
         Pass::Ends { at } => Tallied::BadLine { at },
         Pass::Through => {
             let mut new: [u64; Book::RULES] = [0; Book::RULES];

@@ -15,10 +15,9 @@ use borrow.Author.Tests.{lt-leb, le-leb, leb-false, le-ltb, ltb-false, eq-eqb, n
 use Rattle.rows.proofs.Compare.{less, equal, more, order}
 use Rattle.sets.specs.Sets.{reports as pairs}
 use Rattle.sets.proofs.Members.{reports-length}
-use Rattle.sets.specs.Table.{rowWords}
 use Rattle.meaning.specs.Tables.{noEntry, Five, gotoAt}
 use Rattle.book.specs.Limits.{mostRows, mostBytes}
-use Rattle.build.specs.Promise.{lent}
+use Rattle.lent.specs.Lent.{lent}
 use Rattle.walk.specs.declared.Counted.{Counted}
 use Rattle.walk.specs.declared.Moved.{Moved}
 use Rattle.walk.specs.declared.Moved.the-variants.{Reached, Lost}
@@ -147,21 +146,17 @@ or-none : (a b : Bool) → (a || b) ≡ false → (a ≡ false) × (b ≡ false)
 or-none true b e = absurd (true≢false e)
 or-none false b e = (refl, e)
 
-module _ (goto fall out : List ℕ) (n row : ℕ) where
-  pub not-short : isShort goto fall out n row ≡ false → Lent goto fall n × (rowWords * n ≤ length out) × (row < n)
+module _ (goto fall : List ℕ) (n row : ℕ) where
+  pub not-short : isShort goto fall n row ≡ false → Lent goto fall n × (row < n)
   not-short e =
-      let (e4, outs) = or-none (leb n row || ltb mostRows n || ltb (length goto) (256 * n) || ltb (length fall) n) (ltb (length out) (rowWords * n)) e in
-      let (e3, falls) = or-none (leb n row || ltb mostRows n || ltb (length goto) (256 * n)) (ltb (length fall) n) e4 in
+      let (e3, falls) = or-none (leb n row || ltb mostRows n || ltb (length goto) (256 * n)) (ltb (length fall) n) e in
       let (e2, entries) = or-none (leb n row || ltb mostRows n) (ltb (length goto) (256 * n)) e3 in
-      let (below, few) = or-none (leb n row) (ltb mostRows n) e2 in (
-        record { few = ltb-false _ _ few; entries = ltb-false _ _ entries; falls = ltb-false _ _ falls },
-        ltb-false _ _ outs,
-        leb-false _ _ below,
-      )
+      let (below, few) = or-none (leb n row) (ltb mostRows n) e2 in
+      (record { few = ltb-false _ _ few; entries = ltb-false _ _ entries; falls = ltb-false _ _ falls }, leb-false _ _ below)
 
-  pub long-enough : Lent goto fall n → rowWords * n ≤ length out → row < n → isShort goto fall out n row ≡ false
-  long-enough x o h =
-      rw (lt-leb n row h, le-ltb mostRows n (x .few), le-ltb (length goto) (256 * n) (x .entries), le-ltb (length fall) n (x .falls), le-ltb (length out) (rowWords * n) o)
+  pub long-enough : Lent goto fall n → row < n → isShort goto fall n row ≡ false
+  long-enough x h =
+      rw (lt-leb n row h, le-ltb mostRows n (x .few), le-ltb (length goto) (256 * n) (x .entries), le-ltb (length fall) n (x .falls))
 
 -- ---- a run, byte by byte
 

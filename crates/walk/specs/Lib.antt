@@ -1,4 +1,2 @@
--- What the contracts of `walk` cite (Walk), and the theorems' statements (Demands, Whole). Assumes nothing.
+-- What the contracts of `walk` cite. Assumes nothing.
 pub mod Walk
-pub mod Demands
-pub mod Whole

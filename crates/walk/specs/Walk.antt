@@ -9,7 +9,7 @@ use Rattle.sets.specs.Sets.{members, reports as pairs}
 use Rattle.sets.specs.Table.{rowWords, rulesAt}
 use Rattle.meaning.specs.Tables.{noEntry, Five, gotoAt}
 use Rattle.book.specs.Limits.{mostRules, mostRows, mostBytes}
-use Rattle.build.specs.Promise.{lent}
+use Rattle.lent.specs.Lent.{lent}
 use Rattle.walk.specs.declared.Counted.{Counted}
 use Rattle.walk.specs.declared.Counted.the-variants.{Read, Stopped}
 use Rattle.walk.specs.declared.Moved.{Moved}
@@ -73,14 +73,13 @@ module _ (goto fall : List ℕ) (n : ℕ) where
   unfolding moveIn
   moveFrom row c falls = moveIn (suc row) row c falls
 
-module _ (goto fall out : List ℕ) (n : ℕ) where
   -- the row is none of n rows, or no tables have so many, or these have fewer
   abbrev pub isShort : ℕ → Bool
-  isShort row = leb n row || ltb mostRows n || ltb (length goto) (256 * n) || ltb (length fall) n || ltb (length out) (rowWords * n)
+  isShort row = leb n row || ltb mostRows n || ltb (length goto) (256 * n) || ltb (length fall) n
 
   -- One byte's move, from any row over any tables.
   abbrev pub moveOf : ℕ → ℕ → Moved
-  moveOf row c = cond (isShort row) Lost (moveFrom goto fall n row c 0)
+  moveOf row c = cond (isShort row) Lost (moveFrom row c 0)
 
 -- ---- the run over a text
 
@@ -112,32 +111,6 @@ module _ (goto fall out : List ℕ) (n : ℕ) where
 
   abbrev pub reportsOf : List ℕ → List ℕ
   reportsOf text = reportsFrom 0 0 text
-
--- ---- the looks of a run
-
--- the looks after one, where it falls
-abbrev pub afterLook : Looked → (ℕ → List Looked) → List Looked
-afterLook (Go e) k = []
-afterLook (Fall f) k = k f
-afterLook Wrong k = []
-
-module _ (goto fall : List ℕ) (n : ℕ) where
-  -- the looks of a byte's move, in order, as many as `moveIn` makes
-  unfoldable pub looksIn : ℕ → ℕ → ℕ → List Looked
-  looksIn zero row c = []
-  looksIn (suc k) row c = lookAt goto fall n row c ∷ afterLook (lookAt goto fall n row c) (λ f. looksIn k f c)
-
-  -- those of the run over a text
-  unfoldable pub looksFrom : ℕ → List ℕ → List Looked
-  looksFrom row [] = []
-  looksFrom row (c ∷ text) = looksIn (suc row) row c ++ onMove (moveFrom goto fall n row c 0) (λ to more. looksFrom to text) []
-
--- how many of them go on
-unfoldable pub goings : List Looked → ℕ
-goings [] = 0
-goings (Go e ∷ ls) = suc (goings ls)
-goings (Fall f ∷ ls) = goings ls
-goings (Wrong ∷ ls) = goings ls
 
 -- ---- the answer
 

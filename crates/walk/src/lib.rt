@@ -1,17 +1,18 @@
 // The walk over tables: one look, one byte's move, and the walk over a text.
 
 use book::Book;
-use sets::Set;
-use sets::WORDS;
+use words::Set;
+use words::WORDS;
 ghost use mathlib.Core.Path.{_≡_};
 ghost use Prim.Native.Nat.{suc, _+_, _*_, _≤_, _<_};
 ghost use lib.ListN.{length, getD};
 ghost use lib.Seq.{sets as stored};
+ghost use Rattle.moments.specs.Moments.{was, left};
 ghost use Rattle.sets.specs.Sets.{setOf, reports as pairs};
 ghost use Rattle.sets.specs.Table.{rowWords, rulesAt};
 ghost use Rattle.meaning.specs.Tables.{gotoAt};
 ghost use Rattle.book.specs.Limits.{mostRules};
-ghost use Rattle.build.specs.Promise.{five};
+ghost use Rattle.lent.specs.Lent.{five};
 ghost use Rattle.walk.specs.Walk.{Lent, Walkable, unwritten, moveFrom, isShort, moveOf, reported, runOf, reportsOf, written, hasRows, walkOf, bufferOf, numberOf, valueOf};
 
 // The entry that says: fall back.
@@ -93,14 +94,14 @@ fn wide(x: u16) -> usize
 // A row's entry on a byte, and the row that it falls to.
 fn entry_at(goto: &[u16], row: usize, byte: u8) -> usize
     requires { ⌜ 256 * row + 256 ≤ length (now goto) ⌝ }
-    ensures { λ r. ⌜ r ≡ gotoAt (now (goto .entry)) row byte ⌝ }
+    ensures { λ r. ⌜ r ≡ gotoAt (was goto) row byte ⌝ }
 {
     wide(goto[256 * row + byte as usize])
 }
 
 fn fall_at(fall: &[u16], row: usize) -> usize
     requires { ⌜ row < length (now fall) ⌝ }
-    ensures { λ r. ⌜ r ≡ getD (now (fall .entry)) row 0 ⌝ }
+    ensures { λ r. ⌜ r ≡ getD (was fall) row 0 ⌝ }
 {
     wide(fall[row])
 }
@@ -117,16 +118,16 @@ fn is_unwritten(n: usize, row: usize, entry: usize, to: usize) -> bool
 
 // The rules that a row reports; none where the table has no such row.
 pub fn rules(out: &[u64], row: usize) -> Set
-    ensures { λ r. ⌜ (setOf r ≡ rulesAt (now (out .entry)) row) × (length r ≡ rowWords) ⌝ }
+    ensures { λ r. ⌜ (setOf r ≡ rulesAt (was out) row) × (length r ≡ rowWords) ⌝ }
 {
-    let mut set = sets::none();
+    let mut set = words::none();
     if out.len() <= row {
         return set;
     }
     let start = WORDS * row;
     let mut i: usize = 0;
     while i < WORDS {
-        set[i] = sets::word(out, start + i);
+        set[i] = words::word(out, start + i);
         i += 1;
     }
     set
@@ -135,13 +136,13 @@ pub fn rules(out: &[u64], row: usize) -> Set
 // How many they are.
 fn many(out: &[u64], row: usize) -> usize
     requires { ⌜ rowWords * suc row ≤ length (now out) ⌝ }
-    ensures { λ r. ⌜ (r ≡ length (reported (now (out .entry)) row)) × (r ≤ mostRules) ⌝ }
+    ensures { λ r. ⌜ (r ≡ length (reported (was out) row)) × (r ≤ mostRules) ⌝ }
 {
     let start = WORDS * row;
     let mut all = 0;
     let mut i: usize = 0;
     while i < WORDS {
-        all += sets::size(out[start + i]) as usize;
+        all += bits::size(out[start + i]) as usize;
         i += 1;
     }
     all
@@ -150,7 +151,7 @@ fn many(out: &[u64], row: usize) -> usize
 // Looks until one is no fall.
 fn move_from(goto: &[u16], fall: &[u16], n: usize, from: usize, byte: u8) -> Moved
     requires { ⌜ Lent (now goto) (now fall) n × (from < n) ⌝ }
-    ensures { λ r. ⌜ r ≡ moveFrom (now (goto .entry)) (now (fall .entry)) n from byte 0 ⌝ }
+    ensures { λ r. ⌜ r ≡ moveFrom (was goto) (was fall) n from byte 0 ⌝ }
 {
     let mut row = from;
     let mut falls = 0;
@@ -169,8 +170,8 @@ fn move_from(goto: &[u16], fall: &[u16], n: usize, from: usize, byte: u8) -> Mov
 }
 
 // Whether a row is none of n rows, or no tables have so many, or these have fewer.
-fn is_short(goto: &[u16], fall: &[u16], out: &[u64], n: usize, row: usize) -> bool
-    ensures { λ r. ⌜ r ≡ isShort (now (goto .entry)) (now (fall .entry)) (now (out .entry)) n row ⌝ }
+fn is_short(goto: &[u16], fall: &[u16], n: usize, row: usize) -> bool
+    ensures { λ r. ⌜ r ≡ isShort (was goto) (was fall) n row ⌝ }
 {
     if n <= row {
         return true;
@@ -181,17 +182,14 @@ fn is_short(goto: &[u16], fall: &[u16], out: &[u64], n: usize, row: usize) -> bo
     if goto.len() / 256 < n {
         return true;
     }
-    if fall.len() < n {
-        return true;
-    }
-    out.len() / WORDS < n
+    fall.len() < n
 }
 
 // One byte's move. Where the row is none of n rows, or the tables have fewer, it is lost too.
-pub fn move_on(goto: &[u16], fall: &[u16], out: &[u64], n: usize, from: usize, byte: u8) -> Moved
-    ensures { λ r. ⌜ r ≡ moveOf (now (goto .entry)) (now (fall .entry)) (now (out .entry)) n from byte ⌝ }
+pub fn move_on(goto: &[u16], fall: &[u16], n: usize, from: usize, byte: u8) -> Moved
+    ensures { λ r. ⌜ r ≡ moveOf (was goto) (was fall) n from byte ⌝ }
 {
-    if is_short(goto, fall, out, n, from) {
+    if is_short(goto, fall, n, from) {
         return Moved::Lost;
     }
     move_from(goto, fall, n, from, byte)
@@ -206,18 +204,18 @@ pub fn has_rows(
     out: &[u64],
     n: usize,
 ) -> bool
-    ensures { λ r. ⌜ r ≡ hasRows (five (now (goto .entry)) (now (fall .entry)) (now (held .entry)) (now (live .entry)) (now (out .entry))) n ⌝ }
+    ensures { λ r. ⌜ r ≡ hasRows (five (was goto) (was fall) (was held) (was live) (was out)) n ⌝ }
 {
     if n == 0 {
         return false;
     }
-    n <= build::rows_lent(goto.len(), fall.len(), held.len(), live.len(), out.len())
+    n <= lent::rows_lent(goto.len(), fall.len(), held.len(), live.len(), out.len())
 }
 
 // The first pass, which writes nothing. The loop over falls is left by the outer label where a look finds what no build writes.
 fn count(goto: &[u16], fall: &[u16], out: &[u64], n: usize, text: &[u8]) -> Counted
     requires { ⌜ Walkable (now goto) (now fall) (now out) n (now text) ⌝ }
-    ensures { λ r. ⌜ r ≡ runOf (now (goto .entry)) (now (fall .entry)) (now (out .entry)) n (now (text .entry)) ⌝ }
+    ensures { λ r. ⌜ r ≡ runOf (was goto) (was fall) (was out) n (was text) ⌝ }
 {
     let mut row = 0;
     let mut falls: u64 = 0;
@@ -255,13 +253,14 @@ fn count(goto: &[u16], fall: &[u16], out: &[u64], n: usize, text: &[u8]) -> Coun
 // Writes (end, k) from reports[at] on for each rule k of a row, ascending, and answers where the next would go.
 fn report(out: &[u64], row: usize, end: u32, reports: &mut [u32], at: usize) -> usize
     requires { ⌜ (rowWords * suc row ≤ length (now out)) × (at + 2 * length (reported (now out) row) ≤ length (now reports)) ⌝ }
-    ensures { λ r. ⌜ (r ≡ at + 2 * length (reported (now (out .entry)) row)) × (now (reports .exit) ≡ stored (now (reports .entry)) at (pairs end (reported (now (out .entry)) row))) ⌝ }
+    ensures { λ r. ⌜ (r ≡ at + 2 * length (reported (was out) row))
+        × (left reports ≡ stored (was reports) at (pairs end (reported (was out) row))) ⌝ }
 {
     let start = WORDS * row;
     let mut to = at;
     let mut i: usize = 0;
     while i < WORDS {
-        to = sets::write_members(out[start + i], 64 * i as u16, end, reports, to);
+        to = bits::write_members(out[start + i], 64 * i as u16, end, reports, to);
         i += 1;
     }
     to
@@ -279,7 +278,7 @@ fn write(
 )
     requires { ⌜ Walkable (now goto) (now fall) (now out) n (now text) ⌝ }
     requires { ⌜ (length (reportsOf (now goto) (now fall) (now out) n (now text)) ≡ places) × (places ≤ length (now reports)) ⌝ }
-    ensures { λ _. ⌜ now (reports .exit) ≡ written (reportsOf (now (goto .entry)) (now (fall .entry)) (now (out .entry)) n (now (text .entry))) (now (reports .entry)) ⌝ }
+    ensures { λ _. ⌜ left reports ≡ written (reportsOf (was goto) (was fall) (was out) n (was text)) (was reports) ⌝ }
 {
     let mut row = 0;
     let mut to = 0;
@@ -310,8 +309,8 @@ pub fn walk(
     text: &[u8],
     reports: &mut [u32],
 ) -> Walked
-    ensures answer { λ r. ⌜ r ≡ walkOf (five (now (goto .entry)) (now (fall .entry)) (now (held .entry)) (now (live .entry)) (now (out .entry))) n (now (text .entry)) (length (now (reports .entry))) ⌝ }
-    ensures buffer { λ r. ⌜ now (reports .exit) ≡ bufferOf r (reportsOf (now (goto .entry)) (now (fall .entry)) (now (out .entry)) n (now (text .entry))) (now (reports .entry)) ⌝ }
+    ensures answer { λ r. ⌜ r ≡ walkOf (five (was goto) (was fall) (was held) (was live) (was out)) n (was text) (length (was reports)) ⌝ }
+    ensures buffer { λ r. ⌜ left reports ≡ bufferOf r (reportsOf (was goto) (was fall) (was out) n (was text)) (was reports) ⌝ }
 {
     if Book::TEXT < text.len() {
         return Walked::TooLong;

@@ -1,5 +1,2 @@
--- The laws of the widening tool, and the theorems: OneWord, Built and Walked. Assumes nothing.
+-- The law of the widening tool's answer. Assumes nothing.
 pub mod Laws
-pub mod OneWord
-pub mod Built
-pub mod Walked

@@ -1,8 +1,9 @@
 // Old tables made new: live and out had one word a row, and have as many as `sets` gives a row now.
 
-use sets::WORDS;
+use words::WORDS;
 ghost use mathlib.Core.Path.{_≡_};
 ghost use lib.ListN.{length};
+ghost use Rattle.moments.specs.Moments.{was, left};
 ghost use Rattle.widen.specs.Widen.{widenedAt, widened, widenOf, bufferOf, numberOf, valueOf};
 
 // The answer: done, or the old length that a buffer has no room for.
@@ -34,17 +35,17 @@ impl Widened {
 
 // What comes to stand at place i.
 fn at(old: &[u64], i: usize) -> u64
-    ensures { λ r. ⌜ r ≡ widenedAt (now (old .entry)) i ⌝ }
+    ensures { λ r. ⌜ r ≡ widenedAt (was old) i ⌝ }
 {
     if i % WORDS == 0 {
-        return sets::word(old, i / WORDS);
+        return words::word(old, i / WORDS);
     }
     0
 }
 
 // Every place of the new buffer, in order.
 fn spread(old: &[u64], new: &mut [u64])
-    ensures { λ _. ⌜ now (new .exit) ≡ widened (length (now (new .entry))) (now (old .entry)) ⌝ }
+    ensures { λ _. ⌜ left new ≡ widened (length (was new)) (was old) ⌝ }
 {
     let mut i = 0;
     while i < new.len() {
@@ -55,9 +56,10 @@ fn spread(old: &[u64], new: &mut [u64])
 
 // Puts each old number first of its row's words, zeros behind it, and 0 in every later place. Where a buffer has no room for that, nothing is changed.
 pub fn widen(old_live: &[u64], old_out: &[u64], live: &mut [u64], out: &mut [u64]) -> Widened
-    ensures { λ r. ⌜ r ≡ widenOf (length (now («old_live» .entry))) (length (now («old_out» .entry))) (length (now (live .entry))) (length (now (out .entry))) ⌝
-        ∗ ⌜ now (live .exit) ≡ bufferOf r (now («old_live» .entry)) (now (live .entry)) ⌝
-        ∗ ⌜ now (out .exit) ≡ bufferOf r (now («old_out» .entry)) (now (out .entry)) ⌝ }
+    ensures { λ r. ⌜ r ≡ widenOf (length (was «old_live»)) (length (was «old_out»))
+        (length (was live)) (length (was out)) ⌝
+        ∗ ⌜ left live ≡ bufferOf r (was «old_live») (was live) ⌝
+        ∗ ⌜ left out ≡ bufferOf r (was «old_out») (was out) ⌝ }
 {
     if live.len() / WORDS < old_live.len() {
         return Widened::Short(old_live.len());

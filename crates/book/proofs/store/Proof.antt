@@ -4,8 +4,8 @@ use mathlib.Core.Path.{_≡_, sym, _∙_}
 use borrow.Author.Needs.{needs}
 use lib.ListN.{length, getD, drop}
 use lib.Seq.{sets}
-use Rattle.book.specs.Format.{symbolsOf}
-use Rattle.book.proofs.Turns.{store-more, store-ends}
+use Rattle.book.specs.Grown.{symbolsOf}
+use Rattle.book.proofs.Stores.{store-more, store-ends}
 use Rattle.book.proofs.store.Statement.{statement}
 use Rattle.book.proofs.store.Tie as tie
 

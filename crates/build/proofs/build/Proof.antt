@@ -1,8 +1,8 @@
 -- `build` meets its contract, by what the reader and `make` ensure. Assumes nothing.
 use Prim.Native.Nat.{ℕ}
 use mathlib.Core.List.{List}
-use Rattle.book.specs.Meant.{Accepting}
-use Rattle.book.proofs.Accepted.{accepting, refusing}
+use Rattle.format.specs.Lawful.{Accepting}
+use Rattle.reader.proofs.Accepted.{accepting, refusing}
 use Rattle.build.specs.Course.{others}
 use Rattle.build.proofs.Promised.{accepted-within, accepted-builds, refused-leaves}
 use native.Mathlib.Omega.{arith}

@@ -6,7 +6,7 @@ use native.Mathlib.Omega.{arith}
 use borrow.Author.Needs.{needs}
 use Rattle.book.specs.Limits.{mostRows}
 use Rattle.book.specs.Meant.{rulesIn}
-use Rattle.build.specs.Course.{Building, start, grow, stuck, RowBuilt, others, chainAt, Chains, Room}
+use Rattle.build.specs.Course.{Building, start, grow, stuck, RowBuilt, others, chainAt, Chains, RowsUsed}
 use Rattle.build.proofs.Laws.{short-in}
 use Rattle.build.proofs.Chains.{chains-start}
 use Rattle.build.proofs.Sanity.{Grown, grown, rising, row-keeps, all-at}
@@ -72,7 +72,7 @@ returns c =
     let i = turn p in
     stuck (i .before .loop .inv .1) (i .loop-test .taken) (subst (RowBuilt _ _ _ _ _ _ _ _) (c .enum-told .given .1) (p .build-row .ensures .0))
 
-room : (i : tie.In-loop Inv-loop μ-loop) → Room (entry (i .before) .args .lent) (i .before .loop .n) (others (i .before .loop .fall) (i .before .loop .held) (i .before .loop .live) (i .before .loop .out))
+room : (i : tie.In-loop Inv-loop μ-loop) → RowsUsed (entry (i .before) .args .lent) (i .before .loop .n) (others (i .before .loop .fall) (i .before .loop .held) (i .before .loop .live) (i .before .loop .out))
 room i = so-far (i .before) .sane .room
 
 add-s : tie.Need-add-s Inv-loop μ-loop

@@ -3,7 +3,7 @@ use mathlib.Core.Path.{_∙_, subst}
 use mathlib.Core.List.{List}
 use Prim.Native.Nat.{ℕ}
 use Rattle.build.specs.Course.{AllFilled, Others, others}
-use Rattle.build.proofs.Zeroed.{sane-at, empty-at, rows-at, refused-at, zeros-as, others-as}
+use Rattle.build.proofs.Zeroed.{sane-at, empty-at, rows-at, refused-at, zeros-as}
 use borrow.Author.Needs.{needs}
 use Rattle.build.proofs.make.Statement.{statement}
 use Rattle.build.proofs.make.Tie as tie
@@ -30,6 +30,10 @@ goto-of z = start-at z .args .goto .now
 abbrev others-of : tie.After-zero-all → Others
 others-of z = others (start-at z .args .fall .now) (start-at z .args .held .now) (start-at z .args .live .now) (start-at z .args .out .now)
 
+-- the four that the first call left
+abbrev zero-of : tie.After-zero-all → Others
+zero-of z = others (z .zero-all .last .1 .0) (z .zero-all .last .1 .1 .0) (z .zero-all .last .1 .1 .1 .0) (z .zero-all .last .1 .1 .1 .1 .0)
+
 rows-lent-requires : tie.Need-rows-lent-requires
 rows-lent-requires c κs = search needs
 
@@ -54,13 +58,13 @@ same-length-5 c = search needs
 returns : tie.Need-returns
 returns c =
     let z = zeroed-at (c .before) in
-    empty-at (goto-of z) (others-of z) (lent-at z .rows-lent .ensures) (z .zero-all .ensures .0) (z .zero-all .ensures .1) _ (c .if1 .taken)
+    empty-at (goto-of z) (others-of z) {w = zero-of z} (lent-at z .rows-lent .ensures) (z .zero-all .ensures) _ (c .if1 .taken)
 
 fill-all-requires : tie.Need-fill-all-requires
 fill-all-requires c κs =
     let e = c .before .before .before .before .before .before .before .before .before .before .before in
     let z = zeroed-at (e .before) in
-    (start-at z .pre, sane-at (goto-of z) (others-of z) (lent-at z .rows-lent .ensures) (z .zero-all .ensures .0) (z .zero-all .ensures .1) (e .if1 .left))
+    (start-at z .pre, sane-at (goto-of z) (others-of z) {w = zero-of z} (lent-at z .rows-lent .ensures) (z .zero-all .ensures) (e .if1 .left))
 
 enum-known-filled : tie.Need-enum-known-filled
 enum-known-filled c = search needs
@@ -90,7 +94,7 @@ returns-2 : tie.Need-returns-2
 returns-2 c =
     let f = filled-at (c .before .before .before) in
     let z = zeroed-at (left-at f .before) in
-    rows-at (goto-of z) (others-of z) (lent-at z .rows-lent .ensures) (z .zero-all .ensures .0) (z .zero-all .ensures .1) (left-at f .if1 .left) (subst (AllFilled _ _ _ _ _ _) (c .before .filled .given .1) (f .fill-all .ensures))
+    rows-at (goto-of z) (others-of z) {w = zero-of z} (lent-at z .rows-lent .ensures) (z .zero-all .ensures) (left-at f .if1 .left) (subst (AllFilled _ _ _ _ _ _) (c .before .filled .given .1) (f .fill-all .ensures))
 
 same-length-11 : tie.Need-same-length-11
 same-length-11 c =
@@ -134,9 +138,14 @@ returns-3 c =
     let z = zeroed-at (left-at f .before) in
     let k = f .fill-all .kept .1 .1 .1 .1 in
     let j = z .zero-all .kept in
-    refused-at (goto-of z) (others-of z) (lent-at z .rows-lent .ensures) (z .zero-all .ensures .0) (z .zero-all .ensures .1) (left-at f .if1 .left) (subst (AllFilled _ _ _ _ _ _) (c .before .before .before .before .before .before .before .before .before .before .before .before .before .before .before .before .enum-told .given .1) (f .fill-all .ensures))
-    (y .zero-all2 .ensures .0 ∙ zeros-as (k .0 ∙ j .0))
-    (y .zero-all2 .ensures .1 ∙ others-as (k .1 .0 ∙ j .1 .0) (k .1 .1 .0 ∙ j .1 .1 .0) (k .1 .1 .1 .0 ∙ j .1 .1 .1 .0) (k .1 .1 .1 .1 .0 ∙ j .1 .1 .1 .1 .0))
+    let q = y .zero-all2 .ensures in
+    refused-at (goto-of z) (others-of z) {w = zero-of z} (lent-at z .rows-lent .ensures) (z .zero-all .ensures) (left-at f .if1 .left) (subst (AllFilled _ _ _ _ _ _) (c .before .before .before .before .before .before .before .before .before .before .before .before .before .before .before .before .enum-told .given .1) (f .fill-all .ensures)) (
+      zeros-as (q .0) (k .0 ∙ j .0),
+      zeros-as (q .1) (k .1 .0 ∙ j .1 .0),
+      zeros-as (q .2) (k .1 .1 .0 ∙ j .1 .1 .0),
+      zeros-as (q .3) (k .1 .1 .1 .0 ∙ j .1 .1 .1 .0),
+      zeros-as (q .4) (k .1 .1 .1 .1 .0 ∙ j .1 .1 .1 .1 .0),
+    )
 
 pub make-spec : {M : Type 1} → statement M
 make-spec =

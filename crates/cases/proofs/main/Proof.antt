@@ -25,9 +25,6 @@ loop-less c = search needs
 loop-again : tie.Need-loop-again Inv-loop μ-loop
 loop-again c = search needs
 
-texts-requires : tie.Need-texts-requires Inv-loop μ-loop
-texts-requires c κs = search needs
-
 tell-requires : tie.Need-tell-requires Inv-loop μ-loop
 tell-requires c κs = search needs
 
@@ -45,6 +42,5 @@ main-spec =
     add-number
     loop-less
     loop-again
-    texts-requires
     tell-requires
     returns)

@@ -3,7 +3,7 @@ use Prim.Native.Nat.{ℕ}
 use native.Mathlib.Omega.{arith}
 use borrow.Author.Needs.{needs}
 use lib.ListN.{replicate, length-replicate}
-use Rattle.build.specs.Promise.{five}
+use Rattle.lent.specs.Lent.{five}
 use Rattle.walk.proofs.Room.{accepted-within}
 use Rattle.lister.proofs.Laws.{search-shown, search-refused}
 use Rattle.lister.proofs.search.Statement.{statement}

@@ -4,7 +4,7 @@ use mathlib.Core.Path.{_∙_}
 use native.Mathlib.Omega.{arith}
 use borrow.Author.Needs.{needs}
 use lib.ListN.{length-replicate}
-use Rattle.build.specs.Promise.{five}
+use Rattle.lent.specs.Lent.{five}
 use Rattle.summer.proofs.Laws.{total-refused, total-shown}
 use Rattle.summer.proofs.total.Statement.{statement}
 use Rattle.summer.proofs.total.Tie as tie

@@ -22,8 +22,8 @@ use Rattle.tally.proofs.walk_frame.Tie as tie
 abbrev Inv-loop : tie.InvT-loop
 Inv-loop goto fall out n frame base seen₀ row₀ at₀ seen row at =
     (at ≤ length frame) × (length seen ≡ rowWords)
-    × (passFrom (moveOf goto fall out n) (base + at) row (drop at frame) ≡ framePass (moveOf goto fall out n) base frame)
-    × (bitOr (setOf seen) (rulesFrom (moveOf goto fall out n) (rulesAt out) row (drop at frame)) ≡ bitOr (setOf seen₀) (frameRules (moveOf goto fall out n) (rulesAt out) frame))
+    × (passFrom (moveOf goto fall n) (base + at) row (drop at frame) ≡ framePass (moveOf goto fall n) base frame)
+    × (bitOr (setOf seen) (rulesFrom (moveOf goto fall n) (rulesAt out) row (drop at frame)) ≡ bitOr (setOf seen₀) (frameRules (moveOf goto fall n) (rulesAt out) frame))
 
 abbrev μ-loop : tie.MeasureT-loop
 μ-loop goto fall out n frame base seen₀ row₀ at₀ seen row at = length frame - at
@@ -32,7 +32,7 @@ abbrev μ-loop : tie.MeasureT-loop
 got : (k : tie.After-move-on Inv-loop μ-loop) (m : Moved) → k .move-on .result ≡ m →
     let a = k .before .before .before .before .before .before .before .before .before .args in
     let l = k .before .before .before .loop in
-    moveOf (a .goto .now) (a .fall .now) (a .out .now) (a .n) (l .row) (getD (a .frame .now) (l .at) 0) ≡ m
+    moveOf (a .goto .now) (a .fall .now) (a .n) (l .row) (getD (a .frame .now) (l .at) 0) ≡ m
 got k m e = sym (k .move-on .ensures) ∙ e
 
 loop-holds : tie.Need-loop-holds Inv-loop μ-loop
@@ -72,7 +72,7 @@ loop-again c =
     let l = k .before .before .before .loop in
     let a = k .before .before .before .before .before .before .before .before .before .args in
     let t = k .before .before .loop-test .taken in
-    let move = moveOf (a .goto .now) (a .fall .now) (a .out .now) (a .n) in
+    let move = moveOf (a .goto .now) (a .fall .now) (a .n) in
     let moved = got k _ (n .next .given .1) in
     let told = u .1 (omega (arith, r .rules .ensures .1, l .inv .1)) ∙ ap (bitOr (setOf (l .seen))) (r .rules .ensures .0) in
     let on : a .base + l .at + 1 ≡ a .base + (l .at + 1) = omega arith in (

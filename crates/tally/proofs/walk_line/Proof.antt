@@ -11,11 +11,11 @@ use Rattle.sets.specs.Sets.{members, setOf}
 use Rattle.sets.specs.Table.{rowWords}
 use Rattle.book.specs.Limits.{mostRules}
 use Rattle.walk.specs.Walk.{moveOf}
-use Rattle.tally.specs.declared.Line.the-variants.{Sound}
-use Rattle.tally.specs.declared.Pass.{Pass}
-use Rattle.tally.specs.Lines.{mostCount, lineOf}
+use Rattle.lines.specs.declared.Line.the-variants.{Sound}
+use Rattle.lines.specs.declared.Pass.{Pass}
+use Rattle.lines.specs.Lines.{mostCount, lineOf}
 use Rattle.tally.specs.Tally.{addAll, linePass, lineSums}
-use Rattle.tally.proofs.Lines.{line-is}
+use Rattle.lines.proofs.Lines.{line-is}
 use Rattle.tally.proofs.walk_line.Statement.{statement}
 use Rattle.tally.proofs.walk_line.Tie as tie
 
@@ -34,7 +34,7 @@ from-none ws s e = rw e (or-zero-l s)
 -- the line's pass, where that over its stack is q
 passed : (k : tie.After-walk-stack) (q : Pass) → k .walk-stack .result ≡ q →
     let a = k .before .before .before .before .before .before .before .before .before .before .before .before .args in
-    q ≡ linePass (moveOf (a .goto .now) (a .fall .now) (a .out .now) (a .n)) (a .base) (a .line .now)
+    q ≡ linePass (moveOf (a .goto .now) (a .fall .now) (a .n)) (a .base) (a .line .now)
 unfolding linePass
 passed k q e = rw (known (k .before .before .before .before .before) .1) (sym e ∙ k .walk-stack .ensures .0)
 

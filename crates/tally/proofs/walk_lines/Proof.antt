@@ -8,11 +8,11 @@ use lib.ListN.{length, drop}
 use Rattle.sets.specs.Table.{rulesAt}
 use Rattle.book.specs.Limits.{mostRules}
 use Rattle.walk.specs.Walk.{moveOf}
-use Rattle.tally.specs.declared.Pass.{Pass}
-use Rattle.tally.specs.Lines.{linesOf, onPass, passOver}
+use Rattle.lines.specs.declared.Pass.{Pass}
+use Rattle.lines.specs.Lines.{linesOf, onPass, passOver}
 use Rattle.tally.specs.Tally.{linePass, sumsOver, linesPass, linesSums}
 use Rattle.tally.specs.Passes.{Room}
-use Rattle.tally.proofs.Lines.{piece, piece-length, lines-pass, lines-end}
+use Rattle.lines.proofs.Lines.{piece, piece-length, lines-pass, lines-end}
 use Rattle.tally.proofs.Adding.{room-less}
 use Rattle.tally.proofs.Walks.{line-room, lines-sums, lines-sums-end}
 use Rattle.tally.proofs.walk_lines.Statement.{statement}
@@ -21,8 +21,8 @@ use Rattle.tally.proofs.walk_lines.Tie as tie
 abbrev Inv-loop : tie.InvT-loop
 Inv-loop goto fall out n profile sums₀ at₀ sums at =
     (at ≤ length profile + 1) × Room (mostRules * (length profile - at)) sums
-    × (passOver (linePass (moveOf goto fall out n)) at (linesOf (drop at profile)) ≡ linesPass (moveOf goto fall out n) profile)
-    × (sumsOver (moveOf goto fall out n) (rulesAt out) (linesOf (drop at profile)) sums ≡ linesSums (moveOf goto fall out n) (rulesAt out) profile sums₀)
+    × (passOver (linePass (moveOf goto fall n)) at (linesOf (drop at profile)) ≡ linesPass (moveOf goto fall n) profile)
+    × (sumsOver (moveOf goto fall n) (rulesAt out) (linesOf (drop at profile)) sums ≡ linesSums (moveOf goto fall n) (rulesAt out) profile sums₀)
 
 abbrev μ-loop : tie.MeasureT-loop
 μ-loop goto fall out n profile sums₀ at₀ sums at = length profile - at
@@ -31,11 +31,12 @@ abbrev μ-loop : tie.MeasureT-loop
 turn : (k : tie.After-walk-line Inv-loop μ-loop) (q : Pass) → k .walk-line .result ≡ q →
     let a = k .before .before .before .before .before .before .before .before .before .before .args in
     let end = k .before .before .before .find .result in
-    onPass q (passOver (linePass (moveOf (a .goto .now) (a .fall .now) (a .out .now) (a .n))) (end + 1) (linesOf (drop (end + 1) (a .profile .now)))) ≡ linesPass (moveOf (a .goto .now) (a .fall .now) (a .out .now) (a .n)) (a .profile .now)
+    onPass q (passOver (linePass (moveOf (a .goto .now) (a .fall .now) (a .n))) (end + 1) (linesOf (drop (end + 1) (a .profile .now)))) ≡ linesPass (moveOf (a .goto .now) (a .fall .now) (a .n)) (a .profile .now)
 turn k q e =
     let l = k .before .before .before .before .before .loop in
     let f = k .before .before .before .find .ensures in
-    rw (← k .walk-line .ensures .0, e) at (sym (lines-pass _ _ (l .at) _ (k .before .before .before .before .loop-test .taken) (f .0) (f .1)) ∙ l .inv .2)
+    let t = k .before .before .before .before .loop-test .taken in
+    rw (← k .walk-line .ensures .0, e) at (sym (lines-pass _ _ (l .at) _ t (f .0) (omega (arith, f .1, t))) ∙ l .inv .2)
 
 loop-holds : tie.Need-loop-holds Inv-loop μ-loop
 unfolding linesPass linesSums
@@ -75,11 +76,12 @@ loop-again c =
     let a = k .before .before .before .before .before .before .before .before .before .before .args in
     let l = k .before .before .before .before .before .loop in
     let f = k .before .before .before .find in
+    let t = k .before .before .before .before .loop-test .taken in
     let told = rw (c .enum-told .given .1) at (k .walk-line .ensures .1) in (
       omega arith,
       rw told (line-room _ _ _ _ (piece (a .profile .now) (l .at) (f .result)) (l .sums) (omega arith) (l .inv .1)),
       turn k _ (c .enum-told .given .1),
-      rw told (sym (lines-sums _ _ _ (l .at) _ (l .sums) (k .before .before .before .before .loop-test .taken) (f .ensures .0) (f .ensures .1)) ∙ l .inv .3),
+      rw told (sym (lines-sums _ _ _ (l .at) _ (l .sums) t (f .ensures .0) (omega (arith, f .ensures .1, t))) ∙ l .inv .3),
     )
 
 enum-known-lost : tie.Need-enum-known-lost Inv-loop μ-loop

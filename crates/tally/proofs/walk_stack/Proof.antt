@@ -11,10 +11,10 @@ use Rattle.sets.specs.Sets.{setOf}
 use Rattle.sets.specs.Table.{rowWords, rulesAt}
 use Rattle.sets.proofs.Laws.{union-assoc}
 use Rattle.walk.specs.Walk.{moveOf}
-use Rattle.tally.specs.declared.Pass.{Pass}
-use Rattle.tally.specs.Lines.{framesOf, onPass, passOver}
+use Rattle.lines.specs.declared.Pass.{Pass}
+use Rattle.lines.specs.Lines.{framesOf, onPass, passOver}
 use Rattle.tally.specs.Tally.{framePass, rulesOver, stackPass, stackRules}
-use Rattle.tally.proofs.Lines.{piece-length}
+use Rattle.lines.proofs.Lines.{piece-length}
 use Rattle.tally.proofs.Walks.{stack-rules-step, stack-pass, stack-end, stack-rules-end}
 use Rattle.tally.proofs.walk_stack.Statement.{statement}
 use Rattle.tally.proofs.walk_stack.Tie as tie
@@ -22,8 +22,8 @@ use Rattle.tally.proofs.walk_stack.Tie as tie
 abbrev Inv-loop : tie.InvT-loop
 Inv-loop goto fall out n stack base seen₀ at₀ seen at =
     (at ≤ length stack + 1) × (length seen ≡ rowWords)
-    × (passOver (framePass (moveOf goto fall out n)) (base + at) (framesOf (drop at stack)) ≡ stackPass (moveOf goto fall out n) base stack)
-    × (bitOr (setOf seen) (rulesOver (moveOf goto fall out n) (rulesAt out) (framesOf (drop at stack))) ≡ bitOr (setOf seen₀) (stackRules (moveOf goto fall out n) (rulesAt out) stack))
+    × (passOver (framePass (moveOf goto fall n)) (base + at) (framesOf (drop at stack)) ≡ stackPass (moveOf goto fall n) base stack)
+    × (bitOr (setOf seen) (rulesOver (moveOf goto fall n) (rulesAt out) (framesOf (drop at stack))) ≡ bitOr (setOf seen₀) (stackRules (moveOf goto fall n) (rulesAt out) stack))
 
 abbrev μ-loop : tie.MeasureT-loop
 μ-loop goto fall out n stack base seen₀ at₀ seen at = length stack - at
@@ -32,14 +32,14 @@ abbrev μ-loop : tie.MeasureT-loop
 turn : (k : tie.After-walk-frame Inv-loop μ-loop) (q : Pass) → k .walk-frame .result ≡ q →
     let a = k .before .before .before .before .before .before .before .before .before .before .before .args in
     let end = k .before .before .before .find .result in
-    onPass q (passOver (framePass (moveOf (a .goto .now) (a .fall .now) (a .out .now) (a .n))) (a .base + (end + 1)) (framesOf (drop (end + 1) (a .stack .now))))
-    ≡ stackPass (moveOf (a .goto .now) (a .fall .now) (a .out .now) (a .n)) (a .base) (a .stack .now)
+    onPass q (passOver (framePass (moveOf (a .goto .now) (a .fall .now) (a .n))) (a .base + (end + 1)) (framesOf (drop (end + 1) (a .stack .now))))
+    ≡ stackPass (moveOf (a .goto .now) (a .fall .now) (a .n)) (a .base) (a .stack .now)
 turn k q e =
     let a = k .before .before .before .before .before .before .before .before .before .before .before .args in
     let l = k .before .before .before .before .before .loop in
     let f = k .before .before .before .find .ensures in
-    rw (← k .walk-frame .ensures .0, e) at
-    (sym (stack-pass _ (a .stack .now) (a .base) (l .at) _ (k .before .before .before .before .loop-test .taken) (f .0) (f .1)) ∙ l .inv .2)
+    let t = k .before .before .before .before .loop-test .taken in
+    rw (← k .walk-frame .ensures .0, e) at (sym (stack-pass _ (a .stack .now) (a .base) (l .at) _ t (f .0) (omega (arith, f .1, t))) ∙ l .inv .2)
 
 loop-holds : tie.Need-loop-holds Inv-loop μ-loop
 unfolding stackPass stackRules
@@ -84,7 +84,7 @@ loop-again c =
     let f = k .before .before .before .find in
     let t = k .before .before .before .before .loop-test .taken in
     let told = rw (c .enum-told .given .1) at (k .walk-frame .ensures .1) in
-    let whole = stack-rules-step (moveOf (a .goto .now) (a .fall .now) (a .out .now) (a .n)) (rulesAt (a .out .now)) (a .stack .now) (l .at) _ t (f .ensures .0) (f .ensures .1) in (
+    let whole = stack-rules-step (moveOf (a .goto .now) (a .fall .now) (a .n)) (rulesAt (a .out .now)) (a .stack .now) (l .at) _ t (f .ensures .0) (omega (arith, f .ensures .1, t)) in (
       omega arith,
       search needs,
       turn k _ (c .enum-told .given .1),

@@ -13,9 +13,8 @@ returns c = simp (← c .before .is-short .ensures, c .if1 .taken)
 
 move-from-requires : tie.Need-move-from-requires
 move-from-requires c κs =
-    let a = c .before .before .before .before .before .args in
-    let (lent, outs, below) = not-short (a .goto .now) (a .fall .now) (a .out .now) (a .n) (a .from) (sym (c .before .is-short .ensures) ∙ c .if1 .left) in
-    (lent, below)
+    let a = c .before .before .before .before .args in
+    not-short (a .goto .now) (a .fall .now) (a .n) (a .from) (sym (c .before .is-short .ensures) ∙ c .if1 .left)
 
 returns-2 : tie.Need-returns-2
 returns-2 c = simp (← c .before .before .is-short .ensures, c .before .if1 .left) (c .move-from .ensures)

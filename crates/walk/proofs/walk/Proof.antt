@@ -7,7 +7,7 @@ use native.Mathlib.Omega.{arith}
 use borrow.Author.Needs.{needs}
 use borrow.Author.Tests.{not-true, not-false, lt-ltb, le-ltb}
 use lib.ListN.{length}
-use Rattle.build.specs.Promise.{five, lent}
+use Rattle.lent.specs.Lent.{five, lent}
 use Rattle.walk.specs.declared.Counted.{Counted}
 use Rattle.walk.specs.Walk.{Walkable, reportsOf, answerOf, hasRows, walkOf}
 use Rattle.walk.proofs.Laws.{counted, has-rows, walked}

@@ -1,38 +1,29 @@
--- `cases::draw::book` is safe and ends. The turns left get fewer. Assumes nothing.
+-- `cases::draw::book` is safe and ends. `i` comes nearer to its end. Assumes nothing.
 use Prim.Native.Nat.{_-_, _≤_}
 use borrow.Author.Needs.{needs}
 use Rattle.cases.proofs.draw.book.Statement.{statement}
 use Rattle.cases.proofs.draw.book.Tie as tie
 
 abbrev Inv-loop : tie.InvT-loop
-Inv-loop bytes₀ run₀ pictures chosen drawn₀ own₀ next₀ counter₀ end bytes run drawn own next counter = 0 ≤ counter
+Inv-loop bytes₀ key plan size₀ p₀ i₀ i-end bytes size p i = 0 ≤ i
 
 abbrev μ-loop : tie.MeasureT-loop
-μ-loop bytes₀ run₀ pictures chosen drawn₀ own₀ next₀ counter₀ end bytes run drawn own next counter = end - counter
-
-draw-requires : tie.Need-draw-requires Inv-loop μ-loop
-draw-requires c κs = search needs
-
-choices-requires : tie.Need-choices-requires Inv-loop μ-loop
-choices-requires c κs = search needs
-
-draw-requires-2 : tie.Need-draw-requires-2 Inv-loop μ-loop
-draw-requires-2 c κs = search needs
+μ-loop bytes₀ key plan size₀ p₀ i₀ i-end bytes size p i = i-end - i
 
 plus-requires : tie.Need-plus-requires Inv-loop μ-loop
 plus-requires c κs = search needs
 
-draw-requires-3 : tie.Need-draw-requires-3 Inv-loop μ-loop
-draw-requires-3 c κs = search needs
+loop-holds : tie.Need-loop-holds Inv-loop μ-loop
+loop-holds c = search needs
 
 plus-requires-2 : tie.Need-plus-requires-2 Inv-loop μ-loop
 plus-requires-2 c κs = search needs
 
-loop-holds : tie.Need-loop-holds Inv-loop μ-loop
-loop-holds c = search needs
+pick-requires : tie.Need-pick-requires Inv-loop μ-loop
+pick-requires c κs = search needs
 
-draw-requires-4 : tie.Need-draw-requires-4 Inv-loop μ-loop
-draw-requires-4 c κs = search needs
+set-of-requires : tie.Need-set-of-requires Inv-loop μ-loop
+set-of-requires c κs = search needs
 
 picture-requires : tie.Need-picture-requires Inv-loop μ-loop
 picture-requires c κs = search needs
@@ -40,20 +31,26 @@ picture-requires c κs = search needs
 plus-requires-3 : tie.Need-plus-requires-3 Inv-loop μ-loop
 plus-requires-3 c κs = search needs
 
-other-requires : tie.Need-other-requires Inv-loop μ-loop
-other-requires c κs = search needs
+above-requires : tie.Need-above-requires Inv-loop μ-loop
+above-requires c κs = search needs
 
-draw-requires-5 : tie.Need-draw-requires-5 Inv-loop μ-loop
-draw-requires-5 c κs = search needs
+own-key-requires : tie.Need-own-key-requires Inv-loop μ-loop
+own-key-requires c κs = search needs
 
 plus-requires-4 : tie.Need-plus-requires-4 Inv-loop μ-loop
 plus-requires-4 c κs = search needs
 
+pick-requires-2 : tie.Need-pick-requires-2 Inv-loop μ-loop
+pick-requires-2 c κs = search needs
+
+plus-requires-5 : tie.Need-plus-requires-5 Inv-loop μ-loop
+plus-requires-5 c κs = search needs
+
 rule-requires : tie.Need-rule-requires Inv-loop μ-loop
 rule-requires c κs = search needs
 
-add-counter : tie.Need-add-counter Inv-loop μ-loop
-add-counter c = search needs
+add-i : tie.Need-add-i Inv-loop μ-loop
+add-i c = search needs
 
 loop-less : tie.Need-loop-less Inv-loop μ-loop
 loop-less c = search needs
@@ -70,21 +67,20 @@ book-spec =
     (tie.spec
     Inv-loop
     μ-loop
-    draw-requires
-    choices-requires
-    draw-requires-2
     plus-requires
-    draw-requires-3
-    plus-requires-2
     loop-holds
-    draw-requires-4
+    plus-requires-2
+    pick-requires
+    set-of-requires
     picture-requires
     plus-requires-3
-    other-requires
-    draw-requires-5
+    above-requires
+    own-key-requires
     plus-requires-4
+    pick-requires-2
+    plus-requires-5
     rule-requires
-    add-counter
+    add-i
     loop-less
     loop-again
     returns)

@@ -16,17 +16,17 @@ returns c = search needs
 loop-holds : tie.Need-loop-holds Inv-loop μ-loop
 loop-holds c = search needs
 
-place-requires : tie.Need-place-requires Inv-loop μ-loop
-place-requires c κs = search needs
+mul-plus : tie.Need-mul-plus Inv-loop μ-loop
+mul-plus c = search needs
+
+plus-requires : tie.Need-plus-requires Inv-loop μ-loop
+plus-requires c κs = search needs
 
 word-requires : tie.Need-word-requires Inv-loop μ-loop
 word-requires c κs = search needs
 
 above-requires : tie.Need-above-requires Inv-loop μ-loop
 above-requires c κs = search needs
-
-place-requires-2 : tie.Need-place-requires-2 Inv-loop μ-loop
-place-requires-2 c κs = search needs
 
 word-requires-2 : tie.Need-word-requires-2 Inv-loop μ-loop
 word-requires-2 c κs = search needs
@@ -54,10 +54,10 @@ is-like-last-spec =
     μ-loop
     returns
     loop-holds
-    place-requires
+    mul-plus
+    plus-requires
     word-requires
     above-requires
-    place-requires-2
     word-requires-2
     returns-2
     add-i

@@ -5,13 +5,16 @@ use Rattle.cases.proofs.fitting.is_short.Statement.{statement}
 use Rattle.cases.proofs.fitting.is_short.Tie as tie
 
 abbrev Inv-loop : tie.InvT-loop
-Inv-loop rules count k₀ k = 0 ≤ k
+Inv-loop fields count k₀ k = 0 ≤ k
 
 abbrev μ-loop : tie.MeasureT-loop
-μ-loop rules count k₀ k = count - k
+μ-loop fields count k₀ k = count - k
 
 loop-holds : tie.Need-loop-holds Inv-loop μ-loop
 loop-holds c = search needs
+
+plus-requires : tie.Need-plus-requires Inv-loop μ-loop
+plus-requires c κs = search needs
 
 size-of-requires : tie.Need-size-of-requires Inv-loop μ-loop
 size-of-requires c κs = search needs
@@ -38,6 +41,7 @@ is-short-spec =
     Inv-loop
     μ-loop
     loop-holds
+    plus-requires
     size-of-requires
     returns
     add-k

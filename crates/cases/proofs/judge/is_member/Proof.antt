@@ -5,10 +5,10 @@ use Rattle.cases.proofs.judge.is_member.Statement.{statement}
 use Rattle.cases.proofs.judge.is_member.Tie as tie
 
 abbrev Inv-loop : tie.InvT-loop
-Inv-loop bytes byte pictures q body i₀ i-end i = 0 ≤ i
+Inv-loop bytes byte fields picture body i₀ i-end i = 0 ≤ i
 
 abbrev μ-loop : tie.MeasureT-loop
-μ-loop bytes byte pictures q body i₀ i-end i = i-end - i
+μ-loop bytes byte fields picture body i₀ i-end i = i-end - i
 
 body-of-requires : tie.Need-body-of-requires Inv-loop μ-loop
 body-of-requires c κs = search needs

@@ -5,10 +5,10 @@ use Rattle.cases.proofs.judge.judge.Statement.{statement}
 use Rattle.cases.proofs.judge.judge.Tie as tie
 
 abbrev Inv-loop : tie.InvT-loop
-Inv-loop bytes pictures₀ rules₀ from₀ p₀ k₀ sharing₀ counter₀ end pictures rules from p k sharing counter = 0 ≤ counter
+Inv-loop bytes fields₀ from₀ p₀ k₀ counter₀ end fields from p k counter = 0 ≤ counter
 
 abbrev μ-loop : tie.MeasureT-loop
-μ-loop bytes pictures₀ rules₀ from₀ p₀ k₀ sharing₀ counter₀ end pictures rules from p k sharing counter = end - counter
+μ-loop bytes fields₀ from₀ p₀ k₀ counter₀ end fields from p k counter = end - counter
 
 loop-holds : tie.Need-loop-holds Inv-loop μ-loop
 loop-holds c = search needs
@@ -19,35 +19,41 @@ fault-requires c κs = search needs
 returns : tie.Need-returns Inv-loop μ-loop
 returns c = search needs
 
-plus-requires : tie.Need-plus-requires Inv-loop μ-loop
-plus-requires c κs = search needs
-
 size-at-requires : tie.Need-size-at-requires Inv-loop μ-loop
 size-at-requires c κs = search needs
+
+plus-requires : tie.Need-plus-requires Inv-loop μ-loop
+plus-requires c κs = search needs
 
 at8-requires : tie.Need-at8-requires Inv-loop μ-loop
 at8-requires c κs = search needs
 
-shared-requires : tie.Need-shared-requires Inv-loop μ-loop
-shared-requires c κs = search needs
-
 plus-requires-2 : tie.Need-plus-requires-2 Inv-loop μ-loop
 plus-requires-2 c κs = search needs
 
-note-requires : tie.Need-note-requires Inv-loop μ-loop
-note-requires c κs = search needs
-
 plus-requires-3 : tie.Need-plus-requires-3 Inv-loop μ-loop
 plus-requires-3 c κs = search needs
-
-note-requires-2 : tie.Need-note-requires-2 Inv-loop μ-loop
-note-requires-2 c κs = search needs
 
 plus-requires-4 : tie.Need-plus-requires-4 Inv-loop μ-loop
 plus-requires-4 c κs = search needs
 
 plus-requires-5 : tie.Need-plus-requires-5 Inv-loop μ-loop
 plus-requires-5 c κs = search needs
+
+put64-requires : tie.Need-put64-requires Inv-loop μ-loop
+put64-requires c κs = search needs
+
+plus-requires-6 : tie.Need-plus-requires-6 Inv-loop μ-loop
+plus-requires-6 c κs = search needs
+
+plus-requires-7 : tie.Need-plus-requires-7 Inv-loop μ-loop
+plus-requires-7 c κs = search needs
+
+put64-requires-2 : tie.Need-put64-requires-2 Inv-loop μ-loop
+put64-requires-2 c κs = search needs
+
+plus-requires-8 : tie.Need-plus-requires-8 Inv-loop μ-loop
+plus-requires-8 c κs = search needs
 
 add-counter : tie.Need-add-counter Inv-loop μ-loop
 add-counter c = search needs
@@ -76,16 +82,18 @@ judge-spec =
     loop-holds
     fault-requires
     returns
-    plus-requires
     size-at-requires
+    plus-requires
     at8-requires
-    shared-requires
     plus-requires-2
-    note-requires
     plus-requires-3
-    note-requires-2
     plus-requires-4
     plus-requires-5
+    put64-requires
+    plus-requires-6
+    plus-requires-7
+    put64-requires-2
+    plus-requires-8
     add-counter
     loop-less
     loop-again

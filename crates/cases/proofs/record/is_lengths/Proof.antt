@@ -5,13 +5,16 @@ use Rattle.cases.proofs.record.is_lengths.Statement.{statement}
 use Rattle.cases.proofs.record.is_lengths.Tie as tie
 
 abbrev Inv-loop : tie.InvT-loop
-Inv-loop rules count lengths k₀ k = 0 ≤ k
+Inv-loop fields count lengths k₀ k = 0 ≤ k
 
 abbrev μ-loop : tie.MeasureT-loop
-μ-loop rules count lengths k₀ k = 256 - k
+μ-loop fields count lengths k₀ k = 256 - k
 
 loop-holds : tie.Need-loop-holds Inv-loop μ-loop
 loop-holds c = search needs
+
+plus-requires : tie.Need-plus-requires Inv-loop μ-loop
+plus-requires c κs = search needs
 
 size-of-requires : tie.Need-size-of-requires Inv-loop μ-loop
 size-of-requires c κs = search needs
@@ -44,6 +47,7 @@ is-lengths-spec =
     Inv-loop
     μ-loop
     loop-holds
+    plus-requires
     size-of-requires
     element-copy-out-small
     small-requires

@@ -5,10 +5,10 @@ use Rattle.cases.proofs.record.is_sets.Statement.{statement}
 use Rattle.cases.proofs.record.is_sets.Tie as tie
 
 abbrev Inv-loop : tie.InvT-loop
-Inv-loop bytes pictures count picture c₀ c = 0 ≤ c
+Inv-loop bytes fields count sets c₀ c = 0 ≤ c
 
 abbrev μ-loop : tie.MeasureT-loop
-μ-loop bytes pictures count picture c₀ c = 256 - c
+μ-loop bytes fields count sets c₀ c = 256 - c
 
 loop-holds : tie.Need-loop-holds Inv-loop μ-loop
 loop-holds c = search needs

@@ -5,10 +5,10 @@ use Rattle.cases.proofs.record.is_symbols.Statement.{statement}
 use Rattle.cases.proofs.record.is_symbols.Tie as tie
 
 abbrev Inv-loop : tie.InvT-loop
-Inv-loop bytes rules count symbols i₀ i = 0 ≤ i
+Inv-loop bytes fields count symbols i₀ i = 0 ≤ i
 
 abbrev μ-loop : tie.MeasureT-loop
-μ-loop bytes rules count symbols i₀ i = 16384 - i
+μ-loop bytes fields count symbols i₀ i = 16384 - i
 
 loop-holds : tie.Need-loop-holds Inv-loop μ-loop
 loop-holds c = search needs

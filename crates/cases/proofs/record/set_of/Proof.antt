@@ -5,10 +5,10 @@ use Rattle.cases.proofs.record.set_of.Statement.{statement}
 use Rattle.cases.proofs.record.set_of.Tie as tie
 
 abbrev Inv-loop : tie.InvT-loop
-Inv-loop bytes pictures count byte set₀ worth₀ p₀ set worth p = 0 ≤ p
+Inv-loop bytes fields count byte set₀ worth₀ p₀ set worth p = 0 ≤ p
 
 abbrev μ-loop : tie.MeasureT-loop
-μ-loop bytes pictures count byte set₀ worth₀ p₀ set worth p = count - p
+μ-loop bytes fields count byte set₀ worth₀ p₀ set worth p = count - p
 
 loop-holds : tie.Need-loop-holds Inv-loop μ-loop
 loop-holds c = search needs

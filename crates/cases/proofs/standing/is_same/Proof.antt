@@ -13,8 +13,8 @@ abbrev μ-loop : tie.MeasureT-loop
 loop-holds : tie.Need-loop-holds Inv-loop μ-loop
 loop-holds c = search needs
 
-times32-requires : tie.Need-times32-requires Inv-loop μ-loop
-times32-requires c κs = search needs
+mul-plus : tie.Need-mul-plus Inv-loop μ-loop
+mul-plus c = search needs
 
 plus-requires : tie.Need-plus-requires Inv-loop μ-loop
 plus-requires c κs = search needs
@@ -50,7 +50,7 @@ is-same-spec =
     Inv-loop
     μ-loop
     loop-holds
-    times32-requires
+    mul-plus
     plus-requires
     at64-requires
     mul-if1

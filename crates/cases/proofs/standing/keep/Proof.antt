@@ -5,31 +5,28 @@ use Rattle.cases.proofs.standing.keep.Statement.{statement}
 use Rattle.cases.proofs.standing.keep.Tie as tie
 
 abbrev Inv-loop : tie.InvT-loop
-Inv-loop levels texts₀ to r now i₀ texts i = 0 ≤ i
+Inv-loop levels₀ r now i₀ levels i = 0 ≤ i
 
 abbrev μ-loop : tie.MeasureT-loop
-μ-loop levels texts₀ to r now i₀ texts i = 15 - i
+μ-loop levels₀ r now i₀ levels i = 32 - i
 
 loop-holds : tie.Need-loop-holds Inv-loop μ-loop
 loop-holds c = search needs
 
-start-of-requires : tie.Need-start-of-requires Inv-loop μ-loop
-start-of-requires c κs = search needs
+mul-plus : tie.Need-mul-plus Inv-loop μ-loop
+mul-plus c = search needs
 
 plus-requires : tie.Need-plus-requires Inv-loop μ-loop
 plus-requires c κs = search needs
 
-at8-requires : tie.Need-at8-requires Inv-loop μ-loop
-at8-requires c κs = search needs
+mul-put64 : tie.Need-mul-put64 Inv-loop μ-loop
+mul-put64 c = search needs
 
-start-of-requires-2 : tie.Need-start-of-requires-2 Inv-loop μ-loop
-start-of-requires-2 c κs = search needs
+element-copy-out-put64 : tie.Need-element-copy-out-put64 Inv-loop μ-loop
+element-copy-out-put64 c = search needs
 
-plus-requires-2 : tie.Need-plus-requires-2 Inv-loop μ-loop
-plus-requires-2 c κs = search needs
-
-put8-requires : tie.Need-put8-requires Inv-loop μ-loop
-put8-requires c κs = search needs
+put64-requires : tie.Need-put64-requires Inv-loop μ-loop
+put64-requires c κs = search needs
 
 add-i : tie.Need-add-i Inv-loop μ-loop
 add-i c = search needs
@@ -39,24 +36,6 @@ loop-less c = search needs
 
 loop-again : tie.Need-loop-again Inv-loop μ-loop
 loop-again c = search needs
-
-mul-at8 : tie.Need-mul-at8 Inv-loop μ-loop
-mul-at8 c = search needs
-
-at8-requires-2 : tie.Need-at8-requires-2 Inv-loop μ-loop
-at8-requires-2 c κs = search needs
-
-plus-requires-3 : tie.Need-plus-requires-3 Inv-loop μ-loop
-plus-requires-3 c κs = search needs
-
-mul-put8 : tie.Need-mul-put8 Inv-loop μ-loop
-mul-put8 c = search needs
-
-put8-requires-2 : tie.Need-put8-requires-2 Inv-loop μ-loop
-put8-requires-2 c κs = search needs
-
-put-standing-requires : tie.Need-put-standing-requires Inv-loop μ-loop
-put-standing-requires c κs = search needs
 
 returns : tie.Need-returns Inv-loop μ-loop
 returns c = search needs
@@ -68,19 +47,12 @@ keep-spec =
     Inv-loop
     μ-loop
     loop-holds
-    start-of-requires
+    mul-plus
     plus-requires
-    at8-requires
-    start-of-requires-2
-    plus-requires-2
-    put8-requires
+    mul-put64
+    element-copy-out-put64
+    put64-requires
     add-i
     loop-less
     loop-again
-    mul-at8
-    at8-requires-2
-    plus-requires-3
-    mul-put8
-    put8-requires-2
-    put-standing-requires
     returns)

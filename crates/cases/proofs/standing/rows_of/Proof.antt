@@ -5,10 +5,10 @@ use Rattle.cases.proofs.standing.rows_of.Statement.{statement}
 use Rattle.cases.proofs.standing.rows_of.Tie as tie
 
 abbrev Inv-loop : tie.InvT-loop
-Inv-loop fit levels₀ texts₀ room rows₀ r₀ levels texts rows r = 0 ≤ r
+Inv-loop fit levels₀ room goto rows₀ r₀ levels rows r = 0 ≤ r
 
 abbrev μ-loop : tie.MeasureT-loop
-μ-loop fit levels₀ texts₀ room rows₀ r₀ levels texts rows r = room - r
+μ-loop fit levels₀ room goto rows₀ r₀ levels rows r = room - r
 
 loop-holds : tie.Need-loop-holds Inv-loop μ-loop
 loop-holds c = search needs

@@ -5,31 +5,22 @@ use Rattle.cases.proofs.standing.spread.Statement.{statement}
 use Rattle.cases.proofs.standing.spread.Tie as tie
 
 abbrev Inv-loop : tie.InvT-loop
-Inv-loop fit levels₀ texts₀ r known room rows₀ start end byte₀ levels texts rows byte = 0 ≤ byte
+Inv-loop fit levels₀ r room goto rows₀ meant₀ byte₀ levels rows meant byte = 0 ≤ byte
 
 abbrev μ-loop : tie.MeasureT-loop
-μ-loop fit levels₀ texts₀ r known room rows₀ start end byte₀ levels texts rows byte = 256 - byte
-
-start-of-requires : tie.Need-start-of-requires Inv-loop μ-loop
-start-of-requires c κs = search needs
-
-end-of-requires : tie.Need-end-of-requires Inv-loop μ-loop
-end-of-requires c κs = search needs
+μ-loop fit levels₀ r room goto rows₀ meant₀ byte₀ levels rows meant byte = 256 - byte
 
 loop-holds : tie.Need-loop-holds Inv-loop μ-loop
 loop-holds c = search needs
 
-is-unlike-requires : tie.Need-is-unlike-requires Inv-loop μ-loop
-is-unlike-requires c κs = search needs
+word-requires : tie.Need-word-requires Inv-loop μ-loop
+word-requires c κs = search needs
 
-put8-requires : tie.Need-put8-requires Inv-loop μ-loop
-put8-requires c κs = search needs
+has-requires : tie.Need-has-requires Inv-loop μ-loop
+has-requires c κs = search needs
 
-plus-requires : tie.Need-plus-requires Inv-loop μ-loop
-plus-requires c κs = search needs
-
-standing-requires : tie.Need-standing-requires Inv-loop μ-loop
-standing-requires c κs = search needs
+after-requires : tie.Need-after-requires Inv-loop μ-loop
+after-requires c κs = search needs
 
 row-of-requires : tie.Need-row-of-requires Inv-loop μ-loop
 row-of-requires c κs = search needs
@@ -37,8 +28,32 @@ row-of-requires c κs = search needs
 keep-requires : tie.Need-keep-requires Inv-loop μ-loop
 keep-requires c κs = search needs
 
+plus-requires : tie.Need-plus-requires Inv-loop μ-loop
+plus-requires c κs = search needs
+
+mul-held-at : tie.Need-mul-held-at Inv-loop μ-loop
+mul-held-at c = search needs
+
+held-at-requires : tie.Need-held-at-requires Inv-loop μ-loop
+held-at-requires c κs = search needs
+
 plus-requires-2 : tie.Need-plus-requires-2 Inv-loop μ-loop
 plus-requires-2 c κs = search needs
+
+slice-aggregate-held-at : tie.Need-slice-aggregate-held-at Inv-loop μ-loop
+slice-aggregate-held-at c = search needs
+
+held-at-requires-2 : tie.Need-held-at-requires-2 Inv-loop μ-loop
+held-at-requires-2 c κs = search needs
+
+mul-plus : tie.Need-mul-plus Inv-loop μ-loop
+mul-plus c = search needs
+
+plus-requires-3 : tie.Need-plus-requires-3 Inv-loop μ-loop
+plus-requires-3 c κs = search needs
+
+at16-requires : tie.Need-at16-requires Inv-loop μ-loop
+at16-requires c κs = search needs
 
 add-byte : tie.Need-add-byte Inv-loop μ-loop
 add-byte c = search needs
@@ -58,16 +73,21 @@ spread-spec =
     (tie.spec
     Inv-loop
     μ-loop
-    start-of-requires
-    end-of-requires
     loop-holds
-    is-unlike-requires
-    put8-requires
-    plus-requires
-    standing-requires
+    word-requires
+    has-requires
+    after-requires
     row-of-requires
     keep-requires
+    plus-requires
+    mul-held-at
+    held-at-requires
     plus-requires-2
+    slice-aggregate-held-at
+    held-at-requires-2
+    mul-plus
+    plus-requires-3
+    at16-requires
     add-byte
     loop-less
     loop-again

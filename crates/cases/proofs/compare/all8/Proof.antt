@@ -1,0 +1,37 @@
+-- `cases::compare::all8` is safe and ends. `i` comes nearer to its end. Assumes nothing.
+use Prim.Native.Nat.{_-_, _≤_}
+use borrow.Author.Needs.{needs}
+use Rattle.cases.proofs.compare.all8.Statement.{statement}
+use Rattle.cases.proofs.compare.all8.Tie as tie
+
+abbrev Inv-loop : tie.InvT-loop
+Inv-loop a from to v i₀ i = 0 ≤ i
+
+abbrev μ-loop : tie.MeasureT-loop
+μ-loop a from to v i₀ i = to - i
+
+loop-holds : tie.Need-loop-holds Inv-loop μ-loop
+loop-holds c = search needs
+
+at8-requires : tie.Need-at8-requires Inv-loop μ-loop
+at8-requires c κs = search needs
+
+returns : tie.Need-returns Inv-loop μ-loop
+returns c = search needs
+
+add-i : tie.Need-add-i Inv-loop μ-loop
+add-i c = search needs
+
+loop-less : tie.Need-loop-less Inv-loop μ-loop
+loop-less c = search needs
+
+loop-again : tie.Need-loop-again Inv-loop μ-loop
+loop-again c = search needs
+
+returns-2 : tie.Need-returns-2 Inv-loop μ-loop
+returns-2 c = search needs
+
+pub all8-spec : {M : Type 1} → statement M
+all8-spec =
+    tie.close
+    (tie.spec Inv-loop μ-loop loop-holds at8-requires returns add-i loop-less loop-again returns-2)

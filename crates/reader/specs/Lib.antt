@@ -1,0 +1,4 @@
+-- The definitions of the reader crate. Assumes nothing.
+pub mod Handed
+pub mod Numbers
+pub mod Leaves

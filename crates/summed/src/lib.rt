@@ -1,0 +1,1 @@
+// What a tally sums up: definitions in specs/, theorems in proofs/. No code.

@@ -21,7 +21,7 @@ ghost use Rattle.build.specs.Sets.{Within, Joins, IsWord, endsIn, endedI
 ghost use Rattle.build.specs.Course.{Added, Leads, Found, Rising, chainOf, chainAt, Chains, Descends, RowsUsed};
 ghost use Rattle.build.specs.Course.{InHand, RowOf, Place, RowFilled, Sane, RowBuilt, AllFilled, Makes, others};
 ghost use Rattle.moments.specs.Moments.{was, left};
-ghost use Rattle.lent.specs.Lent.{five};
+ghost use Rattle.lent.specs.Lent.{given, returned};
 ghost use Rattle.build.specs.Promise.{numberOf, valueOf, Promise};
 ghost use Rattle.build.specs.declared.Placed.the-variants.{Entry};
 ghost use Rattle.build.specs.declared.Filled.the-variants.{Rows as Whole};
@@ -612,8 +612,7 @@ pub fn build(
     live: &mut [u64],
     out: &mut [u64],
 ) -> Built
-    ensures { λ r. ⌜ Promise (was bytes) (five (was goto) (was fall) (was held) (was live) (was out))
-        (five (left goto) (left fall) (left held) (left live) (left out)) r ⌝ }
+    ensures { λ r. ⌜ Promise (was bytes) (given goto fall held live out) (returned goto fall held live out) r ⌝ }
 {
     let read = reader::read(bytes);
     let answer = read.answer;

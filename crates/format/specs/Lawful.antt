@@ -1,7 +1,7 @@
 -- What is so of every accepted book: what it holds is sound, the number of its bytes, and its rules are those of the record. Assumes nothing.
 use Prim.Native.Nat.{ℕ, _+_, _*_, _≤_, _<_}
 use mathlib.Core.Path.{_≡_}
-use mathlib.Core.List.{List, [], _∷_}
+use mathlib.Core.List.{List}
 use lib.ListN.{length, getD}
 use Rattle.sets.specs.Sums.{sumOver}
 use Rattle.rows.specs.Rows.{ByteText}

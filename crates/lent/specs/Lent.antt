@@ -1,11 +1,14 @@
--- The five buffers that are lent: the rows that they lend, each entry 0, a set stored in a row. Assumes nothing.
+-- The five buffers that are lent: the rows that they lend, whether so many are, each entry 0, a set stored in a row. Assumes nothing.
 use mathlib.Core.Path.{_≡_}
-use mathlib.Core.Bool.{cond, _&&_}
+use mathlib.Core.Bool.{Bool, cond, not, _&&_}
 use mathlib.Core.List.{List}
 use Prim.Native.Nat.{ℕ, _*_, _/_, min}
-use lib.Dec.{eqb, ltb}
+use denote.Ref.{RefT}
+use denote.Triple.Both.{Both}
+use lib.Dec.{eqb, leb, ltb}
 use lib.ListN.{length, replicate}
 use lib.Seq.{sets}
+use Rattle.moments.specs.Moments.{was, left}
 use Rattle.sets.specs.Table.{rowWords}
 use Rattle.meaning.specs.Tables.{Five}
 use Rattle.book.specs.Limits.{mostRows}
@@ -17,9 +20,23 @@ lentOf goto fall held live out = min (goto / 256) (min fall (min held (min (live
 abbrev pub five : List ℕ → List ℕ → List ℕ → List ℕ → List ℕ → Five
 five g f h l o = record { goto = g; fall = f; held = h; live = l; out = o }
 
+-- the five that a function is lent, as they were when it was called
+abbrev pub given : {A B C D E : Type 0} → Both (RefT (List ℕ)) A → Both (RefT (List ℕ)) B → Both (RefT (List ℕ)) C → Both (RefT (List ℕ)) D → Both (RefT (List ℕ)) E
+    → Five
+given goto fall held live out = five (was goto) (was fall) (was held) (was live) (was out)
+
+-- and as they are left when it returns
+abbrev pub returned : {A B C D E : Type 0} → Both A (RefT (List ℕ)) → Both B (RefT (List ℕ)) → Both C (RefT (List ℕ)) → Both D (RefT (List ℕ)) → Both E (RefT (List ℕ))
+    → Five
+returned goto fall held live out = five (left goto) (left fall) (left held) (left live) (left out)
+
 -- the rows lent
 abbrev pub lent : Five → ℕ
 lent b = lentOf (length (b .goto)) (length (b .fall)) (length (b .held)) (length (b .live)) (length (b .out))
+
+-- n is not 0, and not more than the rows lent
+abbrev pub hasRows : Five → ℕ → Bool
+hasRows b n = not (eqb n 0) && leb n (lent b)
 
 -- every entry 0
 abbrev pub zeros : List ℕ → List ℕ

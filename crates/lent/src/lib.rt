@@ -1,11 +1,11 @@
-// The five buffers that are lent: the rows that they lend, zeros in every entry, a set stored in a row.
+// The five buffers that are lent: the rows that they lend and whether so many are, zeros in every entry, a set stored in a row.
 
 use book::Book;
 use words::WORDS;
 ghost use mathlib.Core.Path.{_≡_};
 ghost use Prim.Native.Nat.{min};
 ghost use Rattle.moments.specs.Moments.{was, left};
-ghost use Rattle.lent.specs.Lent.{lentOf, zeros, storedRow};
+ghost use Rattle.lent.specs.Lent.{lentOf, given, hasRows, zeros, storedRow};
 
 fn least(a: usize, b: usize) -> usize
     ensures { λ r. ⌜ r ≡ min a b ⌝ }
@@ -19,6 +19,23 @@ pub fn rows_lent(goto: usize, fall: usize, held: usize, live: usize, out: usize)
 {
     let sets = least(live / WORDS, least(out / WORDS, Book::ROWS));
     least(goto / 256, least(fall, least(held, sets)))
+}
+
+// Whether the tables lend n rows, and n is not 0.
+pub fn has_rows(
+    goto: &[u16],
+    fall: &[u16],
+    held: &[u8],
+    live: &[u64],
+    out: &[u64],
+    n: usize,
+) -> bool
+    ensures { λ r. ⌜ r ≡ hasRows (given goto fall held live out) n ⌝ }
+{
+    if n == 0 {
+        return false;
+    }
+    n <= rows_lent(goto.len(), fall.len(), held.len(), live.len(), out.len())
 }
 
 fn zero16(numbers: &mut [u16])

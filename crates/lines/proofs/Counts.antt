@@ -1,6 +1,5 @@
 -- The counts of a profile that is not too long, added up, fit 64 bits. Assumes nothing.
 use mathlib.Core.List.{[]}
-use Prim.Native.Nat.{ℕ, _*_, _≤_}
 use native.Mathlib.Omega.{arith}
 use lib.ListN.{length}
 use Rattle.sets.specs.Sums.{sumOver}

@@ -24,7 +24,8 @@ use Rattle.walk.specs.declared.Walked.{Walked}
 use Rattle.walk.specs.declared.Walked.the-variants.{Accepted, TooLong, BadRows, Damaged, NoRoom}
 use Rattle.walk.specs.Walk.{Lent, runOf, reportsOf, answerOf, written, bufferOf, numberOf}
 use Rattle.listed.specs.Demands.{WalkCall, walkAnswer, reportsAfter, WalkAnswers, WalkRefusals, WalkRefuses, Moves, OverTables, Demand2, Demand3, Matches}
-use Rattle.walk.proofs.Laws.{long-enough, counted, rows-lent, no-rows, few-lent, walked}
+use Rattle.lent.proofs.HasRows.{rows-lent, no-rows, few-lent}
+use Rattle.walk.proofs.Laws.{long-enough, counted, walked}
 use Rattle.meaning.proofs.Lists.{lists-append}
 use Rattle.meaning.proofs.Occurrences.{occurrences, All, all-occurrences}
 use Rattle.listed.proofs.Longest.{held-longest}

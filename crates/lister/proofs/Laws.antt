@@ -14,13 +14,15 @@ use lib.Seq.{take-suc, take-at, length-take-le}
 use Rattle.output.specs.Printed.{Puts, pairLine, refusedLine}
 use Rattle.output.proofs.Room.{numeral-32, numeral-64, pair-length, refused-length}
 use Rattle.meaning.specs.Tables.{Five}
+use Rattle.lent.specs.Lent.{hasRows}
 use Rattle.walk.specs.declared.Counted.{Counted}
 use Rattle.walk.specs.declared.Counted.the-variants.{Read, Stopped}
 use Rattle.walk.specs.declared.Walked.{Walked}
 use Rattle.walk.proofs.Walked.{the-type}
 use Rattle.walk.specs.declared.Walked.the-variants.{Accepted, TooLong, BadRows, Damaged, NoRoom}
-use Rattle.walk.specs.Walk.{runOf, reportsOf, answerOf, hasRows, walkOf, written, bufferOf, numberOf, valueOf}
-use Rattle.walk.proofs.Laws.{Right, counted, has-rows}
+use Rattle.walk.specs.Walk.{runOf, reportsOf, answerOf, walkOf, written, bufferOf, numberOf, valueOf}
+use Rattle.lent.proofs.HasRows.{has-rows}
+use Rattle.walk.proofs.Laws.{Right, counted}
 use Rattle.walk.proofs.Room.{accepted-within}
 use Rattle.book.specs.Limits.{mostBytes}
 use Rattle.lister.specs.Listing.{reportLines, shownLines, walkedLines, searchLines, PutsSearch}

@@ -7,7 +7,7 @@ ghost use mathlib.Core.Path.{_≡_};
 ghost use Prim.Native.Nat.{_+_, _*_, _≤_};
 ghost use lib.ListN.{length, take};
 ghost use Rattle.moments.specs.Moments.{was, left};
-ghost use Rattle.lent.specs.Lent.{five};
+ghost use Rattle.lent.specs.Lent.{given};
 ghost use Rattle.output.specs.Printed.{Puts};
 ghost use Rattle.lister.specs.Listing.{reportLines, shownLines, PutsSearch, listRoom, ListerAnswer};
 
@@ -77,7 +77,7 @@ fn search(
     answer: &mut [u8],
     at: usize,
 ) -> usize
-    ensures { λ r. ⌜ PutsSearch (five (was goto) (was fall) (was held) (was live) (was out)) rows (was text) (was answer) at (left answer) r ⌝ }
+    ensures { λ r. ⌜ PutsSearch (given goto fall held live out) rows (was text) (was answer) at (left answer) r ⌝ }
 {
     let mut reports = [0u32; PLACES];
     let walked = walk::walk(goto, fall, held, live, out, rows, text, &mut reports);

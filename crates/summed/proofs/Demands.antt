@@ -20,7 +20,7 @@ use Rattle.reader.proofs.Numbers.{numbered}
 use Rattle.lent.specs.Lent.{lent}
 use Rattle.build.specs.Promise.{Answers, builds, refuses as refuses-build}
 use Rattle.walk.specs.Walk.{written}
-use Rattle.walk.proofs.Laws.{rows-lent, no-rows, few-lent}
+use Rattle.lent.proofs.HasRows.{rows-lent, no-rows, few-lent}
 use Rattle.listed.proofs.Whole.{built}
 use Rattle.lines.specs.declared.Pass.{Pass}
 use Rattle.lines.specs.declared.Pass.the-variants.{Through, Ends}

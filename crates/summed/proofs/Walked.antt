@@ -22,7 +22,8 @@ use Rattle.walk.specs.declared.Moved.the-variants.{Reached, Lost}
 use Rattle.walk.specs.declared.Walked.{Walked}
 use Rattle.walk.specs.declared.Walked.the-variants.{Accepted, TooLong, BadRows, Damaged, NoRoom}
 use Rattle.walk.specs.Walk.{Lent, moveFrom, onMove, reported, runFrom, runOf, reportsFrom, answerOf, walkOf, numberOf, valueOf}
-use Rattle.walk.proofs.Laws.{Within, move-within, long-enough, rows-lent, walked}
+use Rattle.lent.proofs.HasRows.{rows-lent}
+use Rattle.walk.proofs.Laws.{Within, move-within, long-enough, walked}
 use Rattle.lines.specs.declared.Pass.{Pass}
 use Rattle.lines.specs.declared.Pass.the-variants.{Through, Ends}
 use Rattle.tally.specs.Tally.{afterMove, passFrom, rulesFrom, framePass, frameRules, moveBy}

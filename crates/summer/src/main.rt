@@ -6,7 +6,7 @@ use inputs::Both;
 ghost use Prim.Native.Nat.{_*_, _≤_};
 ghost use lib.ListN.{length, take};
 ghost use Rattle.moments.specs.Moments.{was, left};
-ghost use Rattle.lent.specs.Lent.{five};
+ghost use Rattle.lent.specs.Lent.{given};
 ghost use Rattle.output.specs.Printed.{Puts};
 ghost use Rattle.summer.specs.Summing.{sumLine, sumLines, PutsTotal, sumsRoom, SummerAnswer};
 
@@ -71,7 +71,7 @@ fn total(
     answer: &mut [u8],
     at: usize,
 ) -> usize
-    ensures { λ r. ⌜ PutsTotal (five (was goto) (was fall) (was held) (was live) (was out)) rows (was profile) (was answer) at (left answer) r ⌝ }
+    ensures { λ r. ⌜ PutsTotal (given goto fall held live out) rows (was profile) (was answer) at (left answer) r ⌝ }
 {
     let mut sums = [0u64; Book::RULES];
     let tallied = tally::tally(goto, fall, held, live, out, rows, profile, &mut sums);

@@ -7,7 +7,7 @@ use borrow.Author.Tests.{le-ltb}
 use lib.ListN.{length}
 use Rattle.meaning.specs.Tables.{Five}
 use Rattle.book.specs.Limits.{mostRules, mostBytes}
-use Rattle.walk.specs.Walk.{hasRows}
+use Rattle.lent.specs.Lent.{hasRows}
 use Rattle.lines.specs.declared.Pass.{Pass}
 use Rattle.tally.specs.declared.Tallied.the-variants.{Accepted}
 use Rattle.lines.specs.Lines.{checkOf}

@@ -14,7 +14,8 @@ use Rattle.meaning.specs.Tables.{Five}
 use Rattle.book.specs.Limits.{mostRules, mostBytes}
 use Rattle.walk.specs.declared.Moved.{Moved}
 use Rattle.walk.specs.declared.Moved.the-variants.{Reached, Lost}
-use Rattle.walk.specs.Walk.{moveOf, written, hasRows}
+use Rattle.lent.specs.Lent.{hasRows}
+use Rattle.walk.specs.Walk.{moveOf, written}
 use Rattle.lines.specs.declared.Pass.{Pass}
 use Rattle.lines.specs.declared.Pass.the-variants.{Through, Ends}
 use Rattle.tally.specs.declared.Tallied.{Tallied}

@@ -8,12 +8,12 @@ use lines::SEMICOLON;
 use words::WORDS;
 ghost use mathlib.Core.Path.{_≡_};
 ghost use Prim.Native.Nat.{_+_, _-_, _*_, _≤_, _<_};
-ghost use lib.ListN.{length, drop};
+ghost use lib.ListN.{length};
 ghost use Rattle.moments.specs.Moments.{was, left};
 ghost use Rattle.sets.specs.Sets.{members, setOf, plusEach};
 ghost use Rattle.sets.specs.Table.{rowWords, rulesAt};
 ghost use Rattle.book.specs.Limits.{mostRules, mostBytes};
-ghost use Rattle.lent.specs.Lent.{five};
+ghost use Rattle.lent.specs.Lent.{given};
 ghost use Rattle.walk.specs.Walk.{written};
 ghost use Rattle.lines.specs.Lines.{mostCount};
 ghost use Rattle.tally.specs.Tally.{addAll, movesOver, framePass, frameRules, stackPass, stackRules, linePass, lineSums, linesPass, linesSums, sumsOf, tallyOf, bufferOf, numberOf, valueOf};
@@ -226,13 +226,13 @@ pub fn tally(
     profile: &[u8],
     sums: &mut [u64],
 ) -> Tallied
-    ensures answer { λ r. ⌜ r ≡ tallyOf (five (was goto) (was fall) (was held) (was live) (was out)) n (was profile) (length (was sums)) ⌝ }
+    ensures answer { λ r. ⌜ r ≡ tallyOf (given goto fall held live out) n (was profile) (length (was sums)) ⌝ }
     ensures buffer { λ r. ⌜ left sums ≡ bufferOf r (sumsOf (movesOver goto fall n) (rulesAt (was out)) (was profile)) (was sums) ⌝ }
 {
     if Book::TEXT < profile.len() {
         return Tallied::TooLong;
     }
-    if !walk::has_rows(goto, fall, held, live, out, n) {
+    if !lent::has_rows(goto, fall, held, live, out, n) {
         return Tallied::BadRows { rows: n };
     }
     if sums.len() < Book::RULES {

@@ -17,12 +17,12 @@ use Rattle.sets.specs.Sets.{reports as pairs}
 use Rattle.sets.proofs.Members.{reports-length}
 use Rattle.meaning.specs.Tables.{noEntry, Five, gotoAt}
 use Rattle.book.specs.Limits.{mostRows, mostBytes}
-use Rattle.lent.specs.Lent.{lent}
+use Rattle.lent.specs.Lent.{hasRows}
 use Rattle.walk.specs.declared.Counted.{Counted}
 use Rattle.walk.specs.declared.Moved.{Moved}
 use Rattle.walk.specs.declared.Moved.the-variants.{Reached, Lost}
 use Rattle.walk.specs.declared.Counted.the-variants.{Read, Stopped}
-use Rattle.walk.specs.Walk.{Lent, Looked, Go, Fall, Wrong, unwritten, lookOf, lookAt, onLook, moveIn, moveFrom, isShort, onMove, reported, runFrom, runOf, reportsFrom, reportsOf, written, answerOf, hasRows, walkOf}
+use Rattle.walk.specs.Walk.{Lent, Looked, Go, Fall, Wrong, unwritten, lookOf, lookAt, onLook, moveIn, moveFrom, isShort, onMove, reported, runFrom, runOf, reportsFrom, reportsOf, written, answerOf, walkOf}
 
 -- ---- one look
 
@@ -234,24 +234,6 @@ stored-none l (x ∷ xs) i h = absurd (omega arith)
 -- ---- the rows, and the answer of a walk that reaches its run
 
 module _ (b : Five) (n : ℕ) where
-  pub rows-lent : n ≢ 0 → n ≤ lent b → hasRows b n ≡ true
-  rows-lent ne h = rw (ne-eqb n 0 ne, le-leb n (lent b) h)
-
-  pub no-rows : n ≡ 0 → hasRows b n ≡ false
-  no-rows q = rw (eq-eqb n 0 q)
-
-  pub few-lent : n ≢ 0 → lent b < n → hasRows b n ≡ false
-  few-lent ne h = rw (ne-eqb n 0 ne, lt-leb n (lent b) h)
-
-  pub has-rows : hasRows b n ≡ true → (n ≢ 0) × (n ≤ lent b)
-  has-rows e =
-      elim (decLt 0 n) [
-        | no g ↦ absurd (true≢false (sym e ∙ no-rows (omega arith)))
-        | yes p ↦
-            let ne : n ≢ 0 = omega arith in
-            elim (decLt (lent b) n) [ yes l ↦ absurd (true≢false (sym e ∙ few-lent ne l)) | no g ↦ (ne, omega arith) ]
-      ]
-
   -- where the run r is q
   pub walked : (text : List ℕ) (space : ℕ) {r q : Counted} → length text ≤ mostBytes → hasRows b n ≡ true
       → r ≡ runOf (b .goto) (b .fall) (b .out) n text → r ≡ q → answerOf (b .held) (space / 2) q ≡ walkOf b n text space

@@ -9,8 +9,8 @@ use lib.Dec.{ltb}
 use lib.ListN.{length}
 use borrow.Author.Tests.{lt-ltb, le-ltb}
 use Rattle.book.specs.Limits.{mostBytes}
-use Rattle.lent.specs.Lent.{five}
-use Rattle.walk.specs.Walk.{runOf, answerOf, hasRows, walkOf}
+use Rattle.lent.specs.Lent.{five, hasRows}
+use Rattle.walk.specs.Walk.{runOf, answerOf, walkOf}
 use Rattle.walk.specs.declared.Counted.{Counted}
 use Rattle.walk.specs.declared.Counted.the-variants.{Read, Stopped}
 use Rattle.walk.specs.declared.Walked.{Walked}

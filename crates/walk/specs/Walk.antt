@@ -9,7 +9,7 @@ use Rattle.sets.specs.Sets.{members, reports as pairs}
 use Rattle.sets.specs.Table.{rowWords, rulesAt}
 use Rattle.meaning.specs.Tables.{noEntry, Five, gotoAt}
 use Rattle.book.specs.Limits.{mostRules, mostRows, mostBytes}
-use Rattle.lent.specs.Lent.{lent}
+use Rattle.lent.specs.Lent.{lent, hasRows}
 use Rattle.walk.specs.declared.Counted.{Counted}
 use Rattle.walk.specs.declared.Counted.the-variants.{Read, Stopped}
 use Rattle.walk.specs.declared.Moved.{Moved}
@@ -118,10 +118,6 @@ module _ (goto fall out : List ℕ) (n : ℕ) where
 abbrev pub answerOf : List ℕ → ℕ → Counted → Walked
 answerOf held room (Read made falls row) = cond (ltb room made) (NoRoom made) (Accepted made falls (getD held row 0))
 answerOf held room (Stopped at) = Damaged at
-
--- n is not 0, and not more than the rows lent
-abbrev pub hasRows : Five → ℕ → Bool
-hasRows b n = not (eqb n 0) && leb n (lent b)
 
 -- The walk's answer, with a report buffer of the length `space`.
 abbrev pub walkOf : Five → ℕ → List ℕ → ℕ → Walked

@@ -12,8 +12,8 @@ ghost use Rattle.sets.specs.Sets.{setOf, reports as pairs};
 ghost use Rattle.sets.specs.Table.{rowWords, rulesAt};
 ghost use Rattle.meaning.specs.Tables.{gotoAt};
 ghost use Rattle.book.specs.Limits.{mostRules};
-ghost use Rattle.lent.specs.Lent.{five};
-ghost use Rattle.walk.specs.Walk.{Lent, Walkable, unwritten, moveFrom, isShort, moveOf, reported, runOf, reportsOf, written, hasRows, walkOf, bufferOf, numberOf, valueOf};
+ghost use Rattle.lent.specs.Lent.{given};
+ghost use Rattle.walk.specs.Walk.{Lent, Walkable, unwritten, moveFrom, isShort, moveOf, reported, runOf, reportsOf, written, walkOf, bufferOf, numberOf, valueOf};
 
 // The entry that says: fall back.
 const NO_ENTRY: usize = 65535;
@@ -195,23 +195,6 @@ pub fn move_on(goto: &[u16], fall: &[u16], n: usize, from: usize, byte: u8) -> M
     move_from(goto, fall, n, from, byte)
 }
 
-// Whether the tables lend n rows, and n is not 0.
-pub fn has_rows(
-    goto: &[u16],
-    fall: &[u16],
-    held: &[u8],
-    live: &[u64],
-    out: &[u64],
-    n: usize,
-) -> bool
-    ensures { λ r. ⌜ r ≡ hasRows (five (was goto) (was fall) (was held) (was live) (was out)) n ⌝ }
-{
-    if n == 0 {
-        return false;
-    }
-    n <= lent::rows_lent(goto.len(), fall.len(), held.len(), live.len(), out.len())
-}
-
 // The first pass, which writes nothing. The loop over falls is left by the outer label where a look finds what no build writes.
 fn count(goto: &[u16], fall: &[u16], out: &[u64], n: usize, text: &[u8]) -> Counted
     requires { ⌜ Walkable (now goto) (now fall) (now out) n (now text) ⌝ }
@@ -309,13 +292,13 @@ pub fn walk(
     text: &[u8],
     reports: &mut [u32],
 ) -> Walked
-    ensures answer { λ r. ⌜ r ≡ walkOf (five (was goto) (was fall) (was held) (was live) (was out)) n (was text) (length (was reports)) ⌝ }
+    ensures answer { λ r. ⌜ r ≡ walkOf (given goto fall held live out) n (was text) (length (was reports)) ⌝ }
     ensures buffer { λ r. ⌜ left reports ≡ bufferOf r (reportsOf (was goto) (was fall) (was out) n (was text)) (was reports) ⌝ }
 {
     if Book::TEXT < text.len() {
         return Walked::TooLong;
     }
-    if !has_rows(goto, fall, held, live, out, n) {
+    if !lent::has_rows(goto, fall, held, live, out, n) {
         return Walked::BadRows { rows: n };
     }
     match count(goto, fall, out, n, text) {

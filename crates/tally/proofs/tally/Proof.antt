@@ -7,8 +7,8 @@ use borrow.Author.Needs.{needs}
 use lib.ListN.{length, replicate}
 use Rattle.sets.specs.Table.{rulesAt}
 use Rattle.book.specs.Limits.{mostRules}
-use Rattle.lent.specs.Lent.{five}
-use Rattle.walk.specs.Walk.{moveOf, hasRows}
+use Rattle.lent.specs.Lent.{five, hasRows}
+use Rattle.walk.specs.Walk.{moveOf}
 use Rattle.lines.specs.declared.Pass.{Pass}
 use Rattle.lines.specs.declared.Pass.the-variants.{Through}
 use Rattle.tally.specs.declared.Tallied.the-variants.{Accepted}

@@ -7,10 +7,11 @@ use native.Mathlib.Omega.{arith}
 use borrow.Author.Needs.{needs}
 use borrow.Author.Tests.{not-true, not-false, lt-ltb, le-ltb}
 use lib.ListN.{length}
-use Rattle.lent.specs.Lent.{five, lent}
+use Rattle.lent.specs.Lent.{five, lent, hasRows}
 use Rattle.walk.specs.declared.Counted.{Counted}
-use Rattle.walk.specs.Walk.{Walkable, reportsOf, answerOf, hasRows, walkOf}
-use Rattle.walk.proofs.Laws.{counted, has-rows, walked}
+use Rattle.walk.specs.Walk.{Walkable, reportsOf, answerOf, walkOf}
+use Rattle.lent.proofs.HasRows.{has-rows}
+use Rattle.walk.proofs.Laws.{counted, walked}
 use Rattle.walk.proofs.walk.Statement.{statement}
 use Rattle.walk.proofs.walk.Tie as tie
 

@@ -1,8 +1,8 @@
--- `walk::has_rows` meets its contract. Assumes nothing.
+-- `lent::has_rows` meets its contract. Assumes nothing.
 use borrow.Author.Needs.{needs}
 use borrow.Author.Tests.{eq-eqb, ne-eqb}
-use Rattle.walk.proofs.has_rows.Statement.{statement}
-use Rattle.walk.proofs.has_rows.Tie as tie
+use Rattle.lent.proofs.has_rows.Statement.{statement}
+use Rattle.lent.proofs.has_rows.Tie as tie
 
 returns : tie.Need-returns
 returns c = simp (eq-eqb _ _ (c .if1 .taken))

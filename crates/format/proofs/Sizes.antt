@@ -6,6 +6,7 @@ use native.Mathlib.Nat.{suc-mul}
 use native.Mathlib.Omega.{arith}
 use lib.ListN.{length, getD}
 use Rattle.sets.specs.Sums.{sumOver}
+use Rattle.sets.proofs.Sums.{sum-append}
 use Rattle.format.specs.declared.Answer.the-variants.{Accepted}
 use Rattle.book.specs.Limits.{mostPictures, mostRules, mostSymbols}
 use Rattle.book.specs.Content.{Content, nothing, withPicture, withRule}
@@ -23,8 +24,7 @@ use Rattle.format.proofs.Sounds.{sound-nothing, sound-picture, sound-ru
 
 total-snoc : (w : List ℕ → ℕ) (ls : List (List ℕ)) (l : List ℕ) → sumOver w (ls ++ l ∷ []) ≡ sumOver w ls + w l
 unfolding sumOver
-total-snoc w [] l = omega arith
-total-snoc w (x ∷ ls) l = omega (arith, total-snoc w ls l)
+total-snoc w ls l = omega (arith, sum-append w ls (l ∷ []))
 
 -- at most n lists, of which none adds more than b
 total-most : (w : List ℕ → ℕ) (b n : ℕ) (ls : List (List ℕ)) → length ls ≤ n → ((k : ℕ) → w (getD ls k []) ≤ b) → sumOver w ls ≤ n * b

@@ -1,6 +1,7 @@
 -- The looks of a run over tables, in order, and how many of them go on. Assumes nothing.
 use mathlib.Core.List.{List, [], _∷_, _++_}
 use Prim.Native.Nat.{ℕ, zero, suc, _+_}
+use Rattle.sets.specs.Sums.{sumOver}
 use Rattle.walk.specs.Walk.{Looked, Go, Fall, Wrong, lookAt, moveFrom, onMove}
 
 -- the looks after one, where it falls
@@ -20,12 +21,12 @@ module _ (goto fall : List ℕ) (n : ℕ) where
   looksFrom row [] = []
   looksFrom row (c ∷ text) = looksIn (suc row) row c ++ onMove (moveFrom goto fall n row c 0) (λ to more. looksFrom to text) []
 
--- how many of them go on
+-- 1 for a look that goes on
 abbrev pub going : Looked → ℕ
 going (Go e) = 1
 going (Fall f) = 0
 going Wrong = 0
 
-unfoldable pub goings : List Looked → ℕ
-goings [] = 0
-goings (l ∷ ls) = going l + goings ls
+-- how many of them go on
+abbrev pub goings : List Looked → ℕ
+goings ls = sumOver going ls

@@ -7,5 +7,3 @@ pub mod Zeroed
 pub mod Parts
 pub mod Theory
 pub mod Promised
-pub mod Exact
-pub mod AsBefore

@@ -11,10 +11,10 @@ use Rattle.format.specs.Format.{Meaning, refused, meaningOf}
 use Rattle.book.specs.Meant.{rulesHeld}
 use Rattle.format.specs.Lawful.{Accepting}
 use Rattle.build.specs.Sets.{Within}
-use Rattle.build.specs.Promise.{numberOf, valueOf, Builds, Answers, builds, refuses, Promise}
+use Rattle.promised.specs.Promise.{numberOf, valueOf, Builds, Answers, builds, refuses, Promise}
 use Rattle.build.specs.Course.{Others, fiveOf, Makes}
-use Rattle.build.specs.declared.Built.{Built}
-use Rattle.build.specs.declared.Built.the-variants.{Refused}
+use Rattle.promised.specs.declared.Built.{Built}
+use Rattle.promised.specs.declared.Built.the-variants.{Refused}
 use Rattle.build.proofs.Laws.{short-in}
 use Rattle.build.proofs.Theory.{builds-of}
 

@@ -24,9 +24,9 @@ use Rattle.meaning.proofs.Unique.{rows-or-more}
 use Rattle.meaning.proofs.Build.{Filling as Filled-to, Built, Via, Put, Row, place-root, place-none, place-there, place-full, place-made, built-start, built-fill, built-via, built-next, built-finish}
 use Rattle.build.specs.Sets.{Short}
 use Rattle.lent.specs.Lent.{zeros, zeroed}
-use Rattle.build.specs.Promise.{numberOf, valueOf, Builds, accepted, no-room}
+use Rattle.promised.specs.Promise.{numberOf, valueOf, Builds, accepted, no-room}
 use Rattle.build.specs.Course.{Others, fiveOf, numberAt, columnsOf, Stored, Added, Leads, RowsUsed, there, made, full, Place, root, none, some, Filling, begin, next, RowFilled, whole, short, Sane, RowBuilt, rowOf, Building, start, grow, AllFilled, all, stuck, zeroOthers, Makes, rows, empty, refused}
-use Rattle.build.specs.declared.Built.{Built as Answer}
+use Rattle.promised.specs.declared.Built.{Built as Answer}
 use Rattle.build.specs.declared.Placed.the-variants as placed
 use Rattle.build.specs.declared.Filled.the-variants as filled
 use Rattle.build.proofs.Laws.{all-zero}

@@ -10,7 +10,7 @@ use Rattle.lent.specs.Lent.{zeros}
 use Rattle.build.specs.Course.{Others, Sane, AllFilled, rowsLent, zeroOthers, Makes, rows, empty, refused}
 use Rattle.build.proofs.Laws.{all-zero}
 use Rattle.build.specs.declared.Filled.the-variants as filled
-use Rattle.build.specs.declared.Built.the-variants as built
+use Rattle.promised.specs.declared.Built.the-variants as built
 
 pub zero-sane : (goto : List ℕ) (t : Others) → rowsLent goto t ≢ 0 → Sane (rowsLent goto t) 1 (zeros goto) (zeroOthers t)
 zero-sane goto t ne =

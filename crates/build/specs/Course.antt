@@ -16,8 +16,8 @@ use Rattle.build.specs.declared.Placed.{Placed}
 use Rattle.build.specs.declared.Placed.the-variants as placed
 use Rattle.build.specs.declared.Filled.{Filled}
 use Rattle.build.specs.declared.Filled.the-variants as filled
-use Rattle.build.specs.declared.Built.{Built}
-use Rattle.build.specs.declared.Built.the-variants as built
+use Rattle.promised.specs.declared.Built.{Built}
+use Rattle.promised.specs.declared.Built.the-variants as built
 
 -- ---- the tables but for goto
 

@@ -3,7 +3,7 @@
 use book::Book;
 use book::Pictures;
 use format::Answer;
-use format::Refusal;
+use promised::Built;
 use words::Set;
 use words::WORDS;
 ghost use mathlib.Core.Path.{_≡_};
@@ -22,7 +22,7 @@ ghost use Rattle.build.specs.Course.{Added, Leads, Found, Rising, chainO
 ghost use Rattle.build.specs.Course.{InHand, RowOf, Place, RowFilled, Sane, RowBuilt, AllFilled, Makes, others};
 ghost use Rattle.moments.specs.Moments.{was, left};
 ghost use Rattle.lent.specs.Lent.{given, returned};
-ghost use Rattle.build.specs.Promise.{numberOf, valueOf, Promise};
+ghost use Rattle.promised.specs.Promise.{Promise};
 ghost use Rattle.build.specs.declared.Placed.the-variants.{Entry};
 ghost use Rattle.build.specs.declared.Filled.the-variants.{Rows as Whole};
 
@@ -39,36 +39,6 @@ enum Placed {
 enum Filled {
     Rows(usize),
     Full,
-}
-
-// The answer of a build: the rows used, the rows lent where more are needed, or why the book is refused.
-pub enum Built {
-    Rows(usize),
-    NoRoom(usize),
-    Refused(Refusal),
-}
-
-impl Built {
-    // The paper's number of an answer, and its value.
-    pub fn number(self) -> usize
-        ensures { λ r. ⌜ r ≡ numberOf self ⌝ }
-    {
-        match self {
-            Built::Rows(_) => 0,
-            Built::NoRoom(_) => 10,
-            Built::Refused(why) => Answer::Refused(why).number(),
-        }
-    }
-
-    pub fn value(self) -> usize
-        ensures { λ r. ⌜ r ≡ valueOf self ⌝ }
-    {
-        match self {
-            Built::Rows(n) => n,
-            Built::NoRoom(n) => n,
-            Built::Refused(why) => Answer::Refused(why).value(),
-        }
-    }
 }
 
 // Whether the byte fits the symbol and rule k is of the set (any is where nothing is held).

@@ -155,7 +155,7 @@ fn show(
 
 fn write(
     label: &[u8],
-    built: build::Built,
+    built: promised::Built,
     goto: &[u16],
     fall: &[u16],
     held: &[u8],

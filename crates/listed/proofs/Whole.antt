@@ -9,7 +9,7 @@ use Rattle.book.specs.Meant.{rulesOf}
 use Rattle.format.proofs.Sizes.{lawful}
 use Rattle.reader.proofs.Numbers.{numbered}
 use Rattle.lent.specs.Lent.{lent}
-use Rattle.build.specs.Promise.{Builds, accepted, no-room, Answers, builds, refuses}
+use Rattle.promised.specs.Promise.{Builds, accepted, no-room, Answers, builds, refuses}
 use Rattle.listed.specs.Whole.{Searched, Searches}
 use Rattle.listed.proofs.Demands.{matches}
 

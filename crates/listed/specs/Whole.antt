@@ -8,8 +8,8 @@ use Rattle.book.specs.Content.{Content}
 use Rattle.format.specs.Format.{means, meaningOf}
 use Rattle.book.specs.Meant.{rulesOf}
 use Rattle.lent.specs.Lent.{lent}
-use Rattle.build.specs.Promise.{numberOf, valueOf, Promise}
-use Rattle.build.specs.declared.Built.{Built}
+use Rattle.promised.specs.Promise.{numberOf, valueOf, Promise}
+use Rattle.promised.specs.declared.Built.{Built}
 use Rattle.listed.specs.Demands.{Matched}
 
 -- what a walk over the buffers b with n rows comes to: the bytes mean a book, the rows are lent, and demands 2 and 3 hold of its rules

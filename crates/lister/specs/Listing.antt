@@ -6,8 +6,8 @@ use lib.ListN.{length}
 use Rattle.inputs.specs.Inputs.{lentTables}
 use Rattle.output.specs.Printed.{Puts, pairLine, refusedLine, answerLines}
 use Rattle.meaning.specs.Tables.{Five}
-use Rattle.build.specs.declared.Built.{Built}
-use Rattle.build.specs.Promise.{Promise, numberOf as builtNumber, valueOf as builtValue}
+use Rattle.promised.specs.declared.Built.{Built}
+use Rattle.promised.specs.Promise.{Promise, numberOf as builtNumber, valueOf as builtValue}
 use Rattle.walk.specs.declared.Walked.{Walked}
 use Rattle.walk.specs.declared.Walked.the-variants.{Accepted, TooLong, BadRows, Damaged, NoRoom}
 use Rattle.walk.specs.Walk.{walkOf, reportsOf, numberOf, valueOf}

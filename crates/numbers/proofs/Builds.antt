@@ -19,7 +19,7 @@ use Rattle.format.specs.Format.{Meaning, means, refused, meaningOf}
 use Rattle.book.specs.Limits.{mostRows}
 use Rattle.book.specs.Meant.{rulesOf}
 use Rattle.lent.specs.Lent.{lent, zeroed}
-use Rattle.build.specs.Promise.{Builds, accepted, no-room, Answers, builds, refuses}
+use Rattle.promised.specs.Promise.{Builds, accepted, no-room, Answers, builds, refuses}
 use Rattle.numbers.specs.Cases.{found, cleared, tables, build, Holds}
 use Rattle.numbers.proofs.Books.{Means}
 

@@ -5,9 +5,9 @@ use Rattle.format.specs.declared.Answer.{Answer}
 use Rattle.format.specs.declared.Answer.the-variants as answer
 use Rattle.format.specs.Answers.{numberOf}
 use Rattle.format.proofs.Numbers.{number-some}
-use Rattle.build.specs.declared.Built.{Built}
-use Rattle.build.specs.declared.Built.the-variants as built
-use Rattle.build.specs.Promise.{numberOf as numberBuilt}
+use Rattle.promised.specs.declared.Built.{Built}
+use Rattle.promised.specs.declared.Built.the-variants as built
+use Rattle.promised.specs.Promise.{numberOf as numberBuilt}
 use Rattle.walk.specs.declared.Walked.{Walked}
 use Rattle.walk.specs.declared.Walked.the-variants as walked
 use Rattle.walk.specs.Walk.{numberOf as numberWalked}

@@ -13,7 +13,7 @@ use Rattle.book.specs.Content.{Content, table}
 use Rattle.book.specs.Limits.{mostRules, mostBytes}
 use Rattle.book.specs.Meant.{rulesOf}
 use Rattle.book.proofs.Tables.{is-table}
-use Rattle.build.specs.Promise.{valueOf}
+use Rattle.promised.specs.Promise.{valueOf}
 use Rattle.listed.proofs.Whole.{built}
 use Rattle.lines.specs.Lines.{linesOf, lineOf, onLine}
 use Rattle.lines.specs.Written.{startOf}

@@ -8,8 +8,8 @@ use Rattle.sets.specs.Table.{rowWords}
 use Rattle.meaning.specs.Tables.{Five}
 use Rattle.book.specs.Limits.{mostRules, mostRows}
 use Rattle.lent.specs.Lent.{five, lent, zeroed}
-use Rattle.build.specs.Promise.{numberOf, valueOf, Promise}
-use Rattle.build.specs.declared.Built.{Built}
+use Rattle.promised.specs.Promise.{numberOf, valueOf, Promise}
+use Rattle.promised.specs.declared.Built.{Built}
 use Rattle.listed.specs.Demands.{WalkCall, reportsAfter, WalkAnswers}
 use Rattle.summed.specs.Totals.{TallyCall, sumsAfter, TallyAnswers}
 use Rattle.numbers.specs.Inputs.{bytesA, bytesAA, bytesX, bytesY, aabab, aabbx, aab1, aab1-ab-3, a-01}

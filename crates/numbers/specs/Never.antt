@@ -2,8 +2,8 @@
 use mathlib.Core.Logic.{_≢_}
 use Rattle.format.specs.declared.Answer.{Answer}
 use Rattle.format.specs.Answers.{numberOf}
-use Rattle.build.specs.declared.Built.{Built}
-use Rattle.build.specs.Promise.{numberOf as numberBuilt}
+use Rattle.promised.specs.declared.Built.{Built}
+use Rattle.promised.specs.Promise.{numberOf as numberBuilt}
 use Rattle.walk.specs.declared.Walked.{Walked}
 use Rattle.walk.specs.Walk.{numberOf as numberWalked}
 use Rattle.tally.specs.declared.Tallied.{Tallied}

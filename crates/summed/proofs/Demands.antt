@@ -18,7 +18,7 @@ use Rattle.format.specs.Format.{Meaning, meaningOf}
 use Rattle.format.proofs.Sizes.{lawful}
 use Rattle.reader.proofs.Numbers.{numbered}
 use Rattle.lent.specs.Lent.{lent}
-use Rattle.build.specs.Promise.{Answers, builds, refuses as refuses-build}
+use Rattle.promised.specs.Promise.{Answers, builds, refuses as refuses-build}
 use Rattle.walk.specs.Walk.{written}
 use Rattle.lent.proofs.HasRows.{rows-lent, no-rows, few-lent}
 use Rattle.listed.proofs.Whole.{built}

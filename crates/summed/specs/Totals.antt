@@ -17,8 +17,8 @@ use Rattle.book.specs.Content.{Content}
 use Rattle.format.specs.Format.{means, meaningOf}
 use Rattle.book.specs.Meant.{rulesOf}
 use Rattle.lent.specs.Lent.{lent}
-use Rattle.build.specs.Promise.{numberOf as numberBuilt, valueOf as valueBuilt, Promise}
-use Rattle.build.specs.declared.Built.{Built}
+use Rattle.promised.specs.Promise.{numberOf as numberBuilt, valueOf as valueBuilt, Promise}
+use Rattle.promised.specs.declared.Built.{Built}
 use Rattle.walk.specs.declared.Walked.{Walked}
 use Rattle.walk.specs.Walk.{reportsOf, walkOf, numberOf as numberOfWalk, valueOf as valueOfWalk}
 use Rattle.meaning.specs.Occurrences.{Occurs}

@@ -9,8 +9,8 @@ use Rattle.sets.specs.Table.{rulesAt}
 use Rattle.inputs.specs.Inputs.{lentTables}
 use Rattle.output.specs.Printed.{Puts, pairLine, refusedLine, answerLines}
 use Rattle.meaning.specs.Tables.{Five}
-use Rattle.build.specs.declared.Built.{Built}
-use Rattle.build.specs.Promise.{Promise, numberOf as builtNumber, valueOf as builtValue}
+use Rattle.promised.specs.declared.Built.{Built}
+use Rattle.promised.specs.Promise.{Promise, numberOf as builtNumber, valueOf as builtValue}
 use Rattle.tally.specs.declared.Tallied.{Tallied}
 use Rattle.tally.specs.Tally.{tallyOf, sumsOf, moveBy, bufferOf, numberOf, valueOf}
 

@@ -19,7 +19,7 @@ use report::say;
 use report::say_numbers;
 use tables::Tables;
 
-const BOOKS: usize = 1024;
+const BOOKS: usize = 2048;
 
 fn main() {
     let mut run = [0u64; 256];

@@ -3,8 +3,8 @@ use mathlib.Core.Path.{sym}
 use Prim.Native.Nat.{ℕ}
 use Rattle.meaning.specs.Tables.{Five, Alike}
 use Rattle.lent.specs.Lent.{AsLong}
-use Rattle.build.specs.Exact.{OfWords}
-use Rattle.build.proofs.AsBefore.{of-sound}
+use Rattle.promised.specs.Exact.{OfWords}
+use Rattle.promised.proofs.AsBefore.{of-sound}
 use Rattle.listed.proofs.Whole.{built}
 use Rattle.widened.specs.OneWord.{wide}
 use Rattle.widened.specs.Built.{WideSame, WideBuilt}

@@ -7,8 +7,8 @@ use Rattle.book.specs.Content.{Content}
 use Rattle.format.specs.Format.{means, meaningOf}
 use Rattle.book.specs.Meant.{rulesOf}
 use Rattle.lent.specs.Lent.{AsLong}
-use Rattle.build.specs.Promise.{numberOf, valueOf}
-use Rattle.build.specs.Exact.{BuildCall, OfWords}
+use Rattle.promised.specs.Promise.{numberOf, valueOf}
+use Rattle.promised.specs.Exact.{BuildCall, OfWords}
 use Rattle.widened.specs.OneWord.{OneWord, wide, Roomy}
 
 -- they are any tables of the same rules, with as many rows

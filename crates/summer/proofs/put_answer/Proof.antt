@@ -3,7 +3,7 @@ use native.Mathlib.Omega.{arith}
 use borrow.Author.Needs.{needs}
 use Rattle.output.proofs.Room.{whole-refused, whole-accepted}
 use Rattle.lent.specs.Lent.{five}
-use Rattle.build.specs.Promise.{numberOf, valueOf}
+use Rattle.promised.specs.Promise.{numberOf, valueOf}
 use Rattle.summer.specs.Summing.{totalLines}
 use Rattle.summer.proofs.put_answer.Statement.{statement}
 use Rattle.summer.proofs.put_answer.Tie as tie

@@ -12,8 +12,8 @@ use Rattle.book.specs.Content.{Content}
 use Rattle.format.specs.Format.{means, meaningOf}
 use Rattle.book.specs.Meant.{rulesOf}
 use Rattle.lent.specs.Lent.{lent}
-use Rattle.build.specs.Promise.{numberOf, valueOf, Promise}
-use Rattle.build.specs.declared.Built.{Built}
+use Rattle.promised.specs.Promise.{numberOf, valueOf, Promise}
+use Rattle.promised.specs.declared.Built.{Built}
 
 -- a call of build that keeps its promise
 pub record BuildCall : Type 0 where

@@ -6,8 +6,8 @@ use Rattle.meaning.specs.Tables.{Five}
 use Rattle.book.specs.Content.{Content}
 use Rattle.format.specs.Format.{means, meaningOf}
 use Rattle.book.specs.Apart.{Apart, rulesBefore}
-use Rattle.build.specs.Promise.{numberOf, valueOf, Builds}
-use Rattle.build.specs.Exact.{BuildCall, OfWords}
+use Rattle.promised.specs.Promise.{numberOf, valueOf, Builds}
+use Rattle.promised.specs.Exact.{BuildCall, OfWords}
 
 -- what a call answers and leaves is what was promised for the rules by the numbers, and nothing else is
 pub record BuiltAsBefore (c : BuildCall) (a : Content) : Type 0 where

@@ -12,9 +12,9 @@ use Rattle.book.specs.Apart.{Apart, rulesBefore}
 use Rattle.format.proofs.Sizes.{lawful}
 use Rattle.book.proofs.Meant.{rules-same-held}
 use Rattle.book.proofs.Apart.{apart-as-before}
-use Rattle.build.specs.Promise.{numberOf, valueOf, Builds, Answers, builds, refuses}
-use Rattle.build.specs.AsBefore.{TablesAsBefore}
-use Rattle.build.proofs.Exact.{same-content, not-refused, builds-same}
+use Rattle.promised.specs.Promise.{numberOf, valueOf, Builds, Answers, builds, refuses}
+use Rattle.promised.specs.AsBefore.{TablesAsBefore}
+use Rattle.promised.proofs.Exact.{same-content, not-refused, builds-same}
 
 -- what is promised of a sound book
 pub of-sound : {m : Meaning} {old b : Five} {i v : ℕ} (a : Content) → m ≡ means a → Answers old m b i v → Builds (rulesOf a) old b i v

@@ -20,10 +20,10 @@ use Rattle.format.specs.Format.{Meaning, means, refused, meaningOf}
 use Rattle.book.specs.Meant.{rulesOf}
 use Rattle.format.proofs.Numbers.{number-some, refusal-of, is-refusal}
 use Rattle.lent.specs.Lent.{lent, AsLong}
-use Rattle.build.specs.Promise.{numberOf, valueOf, Builds, accepted, no-room, Answers, builds, refuses}
-use Rattle.build.specs.Exact.{Crowded, Fitting, Exactly, RoomExactly, RowsOrMore, OfWords, OneOutcome}
-use Rattle.build.specs.declared.Built.{Built}
-use Rattle.build.specs.declared.Built.the-variants.{Rows, NoRoom, Refused}
+use Rattle.promised.specs.Promise.{numberOf, valueOf, Builds, accepted, no-room, Answers, builds, refuses}
+use Rattle.promised.specs.Exact.{Crowded, Fitting, Exactly, RoomExactly, RowsOrMore, OfWords, OneOutcome}
+use Rattle.promised.specs.declared.Built.{Built}
+use Rattle.promised.specs.declared.Built.the-variants.{Rows, NoRoom, Refused}
 
 -- ---- room
 

@@ -11,8 +11,8 @@ use Rattle.format.specs.Answers.{number, value}
 use Rattle.format.specs.Format.{Meaning, means, refused, meaningOf}
 use Rattle.book.specs.Meant.{rulesOf}
 use Rattle.lent.specs.Lent.{lent, zeroed, AsLong}
-use Rattle.build.specs.declared.Built.{Built}
-use Rattle.build.specs.declared.Built.the-variants.{Rows, NoRoom, Refused}
+use Rattle.promised.specs.declared.Built.{Built}
+use Rattle.promised.specs.declared.Built.the-variants.{Rows, NoRoom, Refused}
 
 -- ---- the answer's number and value
 

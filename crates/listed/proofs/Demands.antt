@@ -20,9 +20,10 @@ use Rattle.book.specs.Limits.{mostRules, mostBytes}
 use Rattle.lent.specs.Lent.{lent}
 use Rattle.walk.specs.declared.Counted.{Counted}
 use Rattle.walk.specs.declared.Counted.the-variants.{Read, Stopped}
-use Rattle.walk.specs.declared.Walked.{Walked}
-use Rattle.walk.specs.declared.Walked.the-variants.{Accepted, TooLong, BadRows, Damaged, NoRoom}
-use Rattle.walk.specs.Walk.{Lent, runOf, reportsOf, answerOf, written, bufferOf, numberOf}
+use Rattle.answers.specs.declared.Walked.{Walked}
+use Rattle.answers.specs.declared.Walked.the-variants.{Accepted, TooLong, BadRows, Damaged, NoRoom}
+use Rattle.answers.specs.Walked.{numberOf}
+use Rattle.walk.specs.Walk.{Lent, runOf, reportsOf, answerOf, written, bufferOf}
 use Rattle.listed.specs.Demands.{WalkCall, walkAnswer, reportsAfter, WalkAnswers, WalkRefusals, WalkRefuses, Moves, OverTables, Demand2, Demand3, Matches}
 use Rattle.lent.proofs.HasRows.{rows-lent, no-rows, few-lent}
 use Rattle.walk.proofs.Laws.{long-enough, counted, walked}

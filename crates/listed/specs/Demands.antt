@@ -17,8 +17,9 @@ use Rattle.book.specs.Limits.{mostRules, mostBytes}
 use Rattle.lent.specs.Lent.{lent}
 use Rattle.walk.specs.declared.Counted.the-variants.{Read}
 use Rattle.walk.specs.declared.Moved.the-variants.{Reached}
-use Rattle.walk.specs.declared.Walked.{Walked}
-use Rattle.walk.specs.Walk.{moveOf, runOf, reportsOf, walkOf, bufferOf, numberOf, valuesOf}
+use Rattle.answers.specs.declared.Walked.{Walked}
+use Rattle.answers.specs.Walked.{numberOf, valuesOf}
+use Rattle.walk.specs.Walk.{moveOf, runOf, reportsOf, walkOf, bufferOf}
 use Rattle.listed.specs.Looks.{looksFrom, goings}
 
 -- ---- a call of the walk

@@ -17,10 +17,11 @@ use Rattle.meaning.specs.Tables.{Five}
 use Rattle.lent.specs.Lent.{hasRows}
 use Rattle.walk.specs.declared.Counted.{Counted}
 use Rattle.walk.specs.declared.Counted.the-variants.{Read, Stopped}
-use Rattle.walk.specs.declared.Walked.{Walked}
-use Rattle.walk.proofs.Walked.{the-type}
-use Rattle.walk.specs.declared.Walked.the-variants.{Accepted, TooLong, BadRows, Damaged, NoRoom}
-use Rattle.walk.specs.Walk.{runOf, reportsOf, answerOf, walkOf, written, bufferOf, numberOf, valueOf}
+use Rattle.answers.specs.declared.Walked.{Walked}
+use Rattle.answers.proofs.Walked.{the-type}
+use Rattle.answers.specs.declared.Walked.the-variants.{Accepted, TooLong, BadRows, Damaged, NoRoom}
+use Rattle.answers.specs.Walked.{numberOf, valueOf}
+use Rattle.walk.specs.Walk.{runOf, reportsOf, answerOf, walkOf, written, bufferOf}
 use Rattle.lent.proofs.HasRows.{has-rows}
 use Rattle.walk.proofs.Laws.{Right, counted}
 use Rattle.walk.proofs.Room.{accepted-within}

@@ -8,9 +8,10 @@ use Rattle.output.specs.Printed.{Puts, pairLine, refusedLine, answerLines}
 use Rattle.meaning.specs.Tables.{Five}
 use Rattle.promised.specs.declared.Built.{Built}
 use Rattle.promised.specs.Promise.{Promise, numberOf as builtNumber, valueOf as builtValue}
-use Rattle.walk.specs.declared.Walked.{Walked}
-use Rattle.walk.specs.declared.Walked.the-variants.{Accepted, TooLong, BadRows, Damaged, NoRoom}
-use Rattle.walk.specs.Walk.{walkOf, reportsOf, numberOf, valueOf}
+use Rattle.answers.specs.declared.Walked.{Walked}
+use Rattle.answers.specs.declared.Walked.the-variants.{Accepted, TooLong, BadRows, Damaged, NoRoom}
+use Rattle.answers.specs.Walked.{numberOf, valueOf}
+use Rattle.walk.specs.Walk.{walkOf, reportsOf}
 
 -- one line a report: the end, the rule
 unfoldable pub reportLines : List ℕ → List ℕ

@@ -1,8 +1,8 @@
 // The lister: reads a book, `book.bin`, and a text, standard input, and writes the rows used, a line for each report, and the fallbacks with the
 // held length; or why it is refused.
 
+use answers::Walked;
 use inputs::Both;
-use walk::Walked;
 ghost use mathlib.Core.Path.{_≡_};
 ghost use Prim.Native.Nat.{_+_, _*_, _≤_};
 ghost use lib.ListN.{length, take};

@@ -8,12 +8,12 @@ use Rattle.format.proofs.Numbers.{number-some}
 use Rattle.promised.specs.declared.Built.{Built}
 use Rattle.promised.specs.declared.Built.the-variants as built
 use Rattle.promised.specs.Promise.{numberOf as numberBuilt}
-use Rattle.walk.specs.declared.Walked.{Walked}
-use Rattle.walk.specs.declared.Walked.the-variants as walked
-use Rattle.walk.specs.Walk.{numberOf as numberWalked}
-use Rattle.tally.specs.declared.Tallied.{Tallied}
-use Rattle.tally.specs.declared.Tallied.the-variants as tallied
-use Rattle.tally.specs.Tally.{numberOf as numberTallied}
+use Rattle.answers.specs.declared.Walked.{Walked}
+use Rattle.answers.specs.declared.Walked.the-variants as walked
+use Rattle.answers.specs.Walked.{numberOf as numberWalked}
+use Rattle.answers.specs.declared.Tallied.{Tallied}
+use Rattle.answers.specs.declared.Tallied.the-variants as tallied
+use Rattle.answers.specs.Tallied.{numberOf as numberTallied}
 use Rattle.numbers.specs.Never.{NeverFour}
 
 of-read : (x : Answer) → numberOf x ≢ 4

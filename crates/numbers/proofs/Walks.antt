@@ -15,7 +15,8 @@ use Rattle.meaning.specs.Tables.{Five, Tables}
 use Rattle.book.specs.Content.{Content}
 use Rattle.book.specs.Limits.{mostRules, mostBytes}
 use Rattle.book.specs.Meant.{rulesOf}
-use Rattle.walk.specs.Walk.{written, numberOf, valuesOf}
+use Rattle.answers.specs.Walked.{numberOf, valuesOf}
+use Rattle.walk.specs.Walk.{written}
 use Rattle.listed.specs.Demands.{WalkCall, walkAnswer, reportsAfter, OverTables}
 use Rattle.meaning.proofs.Occurrences.{occurrences}
 use Rattle.listed.proofs.Demands.{found, roomy, crowded}

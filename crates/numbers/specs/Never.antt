@@ -4,10 +4,10 @@ use Rattle.format.specs.declared.Answer.{Answer}
 use Rattle.format.specs.Answers.{numberOf}
 use Rattle.promised.specs.declared.Built.{Built}
 use Rattle.promised.specs.Promise.{numberOf as numberBuilt}
-use Rattle.walk.specs.declared.Walked.{Walked}
-use Rattle.walk.specs.Walk.{numberOf as numberWalked}
-use Rattle.tally.specs.declared.Tallied.{Tallied}
-use Rattle.tally.specs.Tally.{numberOf as numberTallied}
+use Rattle.answers.specs.declared.Walked.{Walked}
+use Rattle.answers.specs.Walked.{numberOf as numberWalked}
+use Rattle.answers.specs.declared.Tallied.{Tallied}
+use Rattle.answers.specs.Tallied.{numberOf as numberTallied}
 
 -- no answer has the number 4
 pub record NeverFour : Type 0 where

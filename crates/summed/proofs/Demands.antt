@@ -24,10 +24,11 @@ use Rattle.lent.proofs.HasRows.{rows-lent, no-rows, few-lent}
 use Rattle.listed.proofs.Whole.{built}
 use Rattle.lines.specs.declared.Pass.{Pass}
 use Rattle.lines.specs.declared.Pass.the-variants.{Through, Ends}
-use Rattle.tally.specs.declared.Tallied.{Tallied}
-use Rattle.tally.specs.declared.Tallied.the-variants.{Accepted, TooLong, BadRows, FewSums, BadLine, Damaged}
+use Rattle.answers.specs.declared.Tallied.{Tallied}
+use Rattle.answers.specs.declared.Tallied.the-variants.{Accepted, TooLong, BadRows, FewSums, BadLine, Damaged}
 use Rattle.lines.specs.Lines.{linesOf, checkOf}
-use Rattle.tally.specs.Tally.{linesPass, sumsOf, moveBy, judged, walked, bufferOf, numberOf, valueOf}
+use Rattle.answers.specs.Tallied.{numberOf, valueOf}
+use Rattle.tally.specs.Tally.{linesPass, sumsOf, moveBy, judged, walked, bufferOf}
 use Rattle.lines.specs.Profile.{AllSound}
 use Rattle.summed.specs.Totals.{TallyCall, tallyAnswer, sumsAfter, TallyAnswers, Ready, reportsIn, totalWhere, TallyRefusals, TallyRefuses, SumsWithin, occursIn, OverProfile, Summed, Sums, Tells, Tallies}
 use Rattle.tally.proofs.Walks.{lines-length}

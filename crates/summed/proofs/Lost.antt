@@ -6,7 +6,7 @@ use mathlib.Core.Path.{_≡_, ap, _∙_}
 use native.Mathlib.Omega.{arith}
 use lib.ListN.{length, getD, take, length-take}
 use Rattle.sets.specs.Sums.{sumOver}
-use Rattle.walk.specs.Walk.{numberOf}
+use Rattle.answers.specs.Walked.{numberOf}
 use Rattle.lines.specs.declared.Line.{Line}
 use Rattle.lines.specs.declared.Line.the-variants.{Sound, Broken}
 use Rattle.lines.specs.declared.Pass.the-variants.{Through, Ends}

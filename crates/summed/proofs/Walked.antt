@@ -19,9 +19,10 @@ use Rattle.walk.specs.declared.Counted.{Counted}
 use Rattle.walk.specs.declared.Counted.the-variants.{Read, Stopped}
 use Rattle.walk.specs.declared.Moved.{Moved}
 use Rattle.walk.specs.declared.Moved.the-variants.{Reached, Lost}
-use Rattle.walk.specs.declared.Walked.{Walked}
-use Rattle.walk.specs.declared.Walked.the-variants.{Accepted, TooLong, BadRows, Damaged, NoRoom}
-use Rattle.walk.specs.Walk.{Lent, moveFrom, onMove, reported, runFrom, runOf, reportsFrom, answerOf, walkOf, numberOf, valueOf}
+use Rattle.answers.specs.declared.Walked.{Walked}
+use Rattle.answers.specs.declared.Walked.the-variants.{Accepted, TooLong, BadRows, Damaged, NoRoom}
+use Rattle.answers.specs.Walked.{numberOf, valueOf}
+use Rattle.walk.specs.Walk.{Lent, moveFrom, onMove, reported, runFrom, runOf, reportsFrom, answerOf, walkOf}
 use Rattle.lent.proofs.HasRows.{rows-lent}
 use Rattle.walk.proofs.Laws.{Within, move-within, long-enough, walked}
 use Rattle.lines.specs.declared.Pass.{Pass}

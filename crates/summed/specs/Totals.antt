@@ -19,14 +19,16 @@ use Rattle.book.specs.Meant.{rulesOf}
 use Rattle.lent.specs.Lent.{lent}
 use Rattle.promised.specs.Promise.{numberOf as numberBuilt, valueOf as valueBuilt, Promise}
 use Rattle.promised.specs.declared.Built.{Built}
-use Rattle.walk.specs.declared.Walked.{Walked}
-use Rattle.walk.specs.Walk.{reportsOf, walkOf, numberOf as numberOfWalk, valueOf as valueOfWalk}
+use Rattle.answers.specs.declared.Walked.{Walked}
+use Rattle.answers.specs.Walked.{numberOf as numberOfWalk, valueOf as valueOfWalk}
+use Rattle.walk.specs.Walk.{reportsOf, walkOf}
 use Rattle.meaning.specs.Occurrences.{Occurs}
 use Rattle.lines.specs.Lines.{linesOf}
 use Rattle.lines.specs.Written.{startOf}
 use Rattle.lines.specs.Profile.{AllSound, FirstBroken, framesIn, countIn, frameAt, counts}
-use Rattle.tally.specs.declared.Tallied.{Tallied}
-use Rattle.tally.specs.Tally.{moveBy, sumsOf, tallyOf, bufferOf, numberOf, valueOf}
+use Rattle.answers.specs.declared.Tallied.{Tallied}
+use Rattle.answers.specs.Tallied.{numberOf, valueOf}
+use Rattle.tally.specs.Tally.{moveBy, sumsOf, tallyOf, bufferOf}
 
 -- ---- a call of the tally
 

@@ -13,8 +13,9 @@ use lib.Seq.{take-suc, length-take-le}
 use Rattle.output.specs.Printed.{Puts, refusedLine}
 use Rattle.output.proofs.Room.{numeral-64, pair-length, refused-length}
 use Rattle.meaning.specs.Tables.{Five}
-use Rattle.tally.specs.declared.Tallied.{Tallied}
-use Rattle.tally.specs.Tally.{tallyOf, numberOf, valueOf}
+use Rattle.answers.specs.declared.Tallied.{Tallied}
+use Rattle.answers.specs.Tallied.{numberOf, valueOf}
+use Rattle.tally.specs.Tally.{tallyOf}
 use Rattle.summer.specs.Summing.{sumLine, sumLines, talliedLines, leftSums, totalLines, totalRoom, PutsTotal}
 
 -- ---- lines put behind lines

@@ -11,8 +11,9 @@ use Rattle.output.specs.Printed.{Puts, pairLine, refusedLine, answerLines}
 use Rattle.meaning.specs.Tables.{Five}
 use Rattle.promised.specs.declared.Built.{Built}
 use Rattle.promised.specs.Promise.{Promise, numberOf as builtNumber, valueOf as builtValue}
-use Rattle.tally.specs.declared.Tallied.{Tallied}
-use Rattle.tally.specs.Tally.{tallyOf, sumsOf, moveBy, bufferOf, numberOf, valueOf}
+use Rattle.answers.specs.declared.Tallied.{Tallied}
+use Rattle.answers.specs.Tallied.{numberOf, valueOf}
+use Rattle.tally.specs.Tally.{tallyOf, sumsOf, moveBy, bufferOf}
 
 -- the rule and its sum, where that is not 0
 abbrev pub sumLine : ℕ → ℕ → List ℕ

@@ -9,7 +9,7 @@ use Rattle.meaning.specs.Tables.{Five}
 use Rattle.book.specs.Limits.{mostRules, mostBytes}
 use Rattle.lent.specs.Lent.{hasRows}
 use Rattle.lines.specs.declared.Pass.{Pass}
-use Rattle.tally.specs.declared.Tallied.the-variants.{Accepted}
+use Rattle.answers.specs.declared.Tallied.the-variants.{Accepted}
 use Rattle.lines.specs.Lines.{checkOf}
 use Rattle.tally.specs.Tally.{linesPass, moveBy, judged, walked, tallyOf}
 

@@ -18,8 +18,8 @@ use Rattle.lent.specs.Lent.{hasRows}
 use Rattle.walk.specs.Walk.{moveOf, written}
 use Rattle.lines.specs.declared.Pass.{Pass}
 use Rattle.lines.specs.declared.Pass.the-variants.{Through, Ends}
-use Rattle.tally.specs.declared.Tallied.{Tallied}
-use Rattle.tally.specs.declared.Tallied.the-variants.{Accepted, TooLong, BadRows, FewSums, BadLine, Damaged}
+use Rattle.answers.specs.declared.Tallied.{Tallied}
+use Rattle.answers.specs.declared.Tallied.the-variants.{Accepted, TooLong, BadRows, FewSums, BadLine, Damaged}
 use Rattle.lines.specs.Lines.{linesOf, framesOf, passOver, lineOf, onLine, checkOf}
 
 -- ---- what is added
@@ -125,20 +125,3 @@ bufferOf (BadRows rows) sums old = old
 bufferOf (FewSums places) sums old = old
 bufferOf (BadLine at) sums old = old
 bufferOf (Damaged at) sums old = old
-
--- The paper's number of an answer, and its value.
-abbrev pub numberOf : Tallied → ℕ
-numberOf Accepted = 0
-numberOf TooLong = 11
-numberOf (BadRows rows) = 12
-numberOf (FewSums places) = 16
-numberOf (BadLine at) = 15
-numberOf (Damaged at) = 13
-
-abbrev pub valueOf : Tallied → ℕ
-valueOf Accepted = 0
-valueOf TooLong = mostBytes
-valueOf (BadRows rows) = rows
-valueOf (FewSums places) = places
-valueOf (BadLine at) = at
-valueOf (Damaged at) = at

@@ -1,5 +1,6 @@
 // The tally over a folded profile: the walk of each frame of each line's stack, and what is added.
 
+use answers::Tallied;
 use book::Book;
 use lines::LF;
 use lines::Line;
@@ -16,48 +17,8 @@ ghost use Rattle.book.specs.Limits.{mostRules, mostBytes};
 ghost use Rattle.lent.specs.Lent.{given};
 ghost use Rattle.walk.specs.Walk.{written};
 ghost use Rattle.lines.specs.Lines.{mostCount};
-ghost use Rattle.tally.specs.Tally.{addAll, movesOver, framePass, frameRules, stackPass, stackRules, linePass, lineSums, linesPass, linesSums, sumsOf, tallyOf, bufferOf, numberOf, valueOf};
+ghost use Rattle.tally.specs.Tally.{addAll, movesOver, framePass, frameRules, stackPass, stackRules, linePass, lineSums, linesPass, linesSums, sumsOf, tallyOf, bufferOf};
 ghost use Rattle.tally.specs.Passes.{Room, After, Unites};
-
-// The tally's answer. `numberOf` and `valueOf` of specs/ give each case's number and value.
-pub enum Tallied {
-    Accepted,
-    TooLong,
-    BadRows { rows: usize },
-    FewSums { places: usize },
-    BadLine { at: usize },
-    Damaged { at: usize },
-}
-
-impl Tallied {
-    // The paper's number of an answer.
-    pub fn number(self) -> usize
-        ensures { λ r. ⌜ r ≡ numberOf self ⌝ }
-    {
-        match self {
-            Tallied::Accepted => 0,
-            Tallied::TooLong => 11,
-            Tallied::BadRows { rows: _ } => 12,
-            Tallied::FewSums { places: _ } => 16,
-            Tallied::BadLine { at: _ } => 15,
-            Tallied::Damaged { at: _ } => 13,
-        }
-    }
-
-    // Its value.
-    pub fn value(self) -> usize
-        ensures { λ r. ⌜ r ≡ valueOf self ⌝ }
-    {
-        match self {
-            Tallied::Accepted => 0,
-            Tallied::TooLong => Book::TEXT,
-            Tallied::BadRows { rows } => rows,
-            Tallied::FewSums { places } => places,
-            Tallied::BadLine { at } => at,
-            Tallied::Damaged { at } => at,
-        }
-    }
-}
 
 // ---- walks
 

@@ -13,8 +13,8 @@ use Rattle.lent.specs.Lent.{five, hasRows}
 use Rattle.walk.specs.Walk.{runOf, answerOf, walkOf}
 use Rattle.walk.specs.declared.Counted.{Counted}
 use Rattle.walk.specs.declared.Counted.the-variants.{Read, Stopped}
-use Rattle.walk.specs.declared.Walked.{Walked}
-use Rattle.walk.specs.declared.Walked.the-variants.{Accepted, TooLong, BadRows, Damaged, NoRoom}
+use Rattle.answers.specs.declared.Walked.{Walked}
+use Rattle.answers.specs.declared.Walked.the-variants.{Accepted, TooLong, BadRows, Damaged, NoRoom}
 
 -- the reports of an accepted walk, two numbers each, are at most so many places
 abbrev Within : Walked → ℕ → Type 0

@@ -14,8 +14,8 @@ use Rattle.walk.specs.declared.Counted.{Counted}
 use Rattle.walk.specs.declared.Counted.the-variants.{Read, Stopped}
 use Rattle.walk.specs.declared.Moved.{Moved}
 use Rattle.walk.specs.declared.Moved.the-variants.{Reached, Lost}
-use Rattle.walk.specs.declared.Walked.{Walked}
-use Rattle.walk.specs.declared.Walked.the-variants.{Accepted, TooLong, BadRows, Damaged, NoRoom}
+use Rattle.answers.specs.declared.Walked.{Walked}
+use Rattle.answers.specs.declared.Walked.the-variants.{Accepted, TooLong, BadRows, Damaged, NoRoom}
 
 -- ---- what the tables lend
 
@@ -137,22 +137,3 @@ bufferOf TooLong reports old = old
 bufferOf (BadRows n) reports old = old
 bufferOf (Damaged at) reports old = old
 bufferOf (NoRoom made) reports old = old
-
--- The paper's number of an answer, and its values: three where the walk is accepted.
-abbrev pub numberOf : Walked → ℕ
-numberOf (Accepted made falls held) = 0
-numberOf TooLong = 11
-numberOf (BadRows n) = 12
-numberOf (Damaged at) = 13
-numberOf (NoRoom made) = 14
-
-abbrev pub valuesOf : Walked → List ℕ
-valuesOf (Accepted made falls held) = made ∷ falls ∷ held ∷ []
-valuesOf TooLong = mostBytes ∷ []
-valuesOf (BadRows n) = n ∷ []
-valuesOf (Damaged at) = at ∷ []
-valuesOf (NoRoom made) = made ∷ []
-
--- the first of them
-abbrev pub valueOf : Walked → ℕ
-valueOf a = getD (valuesOf a) 0 0

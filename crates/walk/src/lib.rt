@@ -1,5 +1,6 @@
 // The walk over tables: one look, one byte's move, and the walk over a text.
 
+use answers::Walked;
 use book::Book;
 use words::Set;
 use words::WORDS;
@@ -13,7 +14,7 @@ ghost use Rattle.sets.specs.Table.{rowWords, rulesAt};
 ghost use Rattle.meaning.specs.Tables.{gotoAt};
 ghost use Rattle.book.specs.Limits.{mostRules};
 ghost use Rattle.lent.specs.Lent.{given};
-ghost use Rattle.walk.specs.Walk.{Lent, Walkable, unwritten, moveFrom, isShort, moveOf, reported, runOf, reportsOf, written, walkOf, bufferOf, numberOf, valueOf};
+ghost use Rattle.walk.specs.Walk.{Lent, Walkable, unwritten, moveFrom, isShort, moveOf, reported, runOf, reportsOf, written, walkOf, bufferOf};
 
 // The entry that says: fall back.
 const NO_ENTRY: usize = 65535;
@@ -28,61 +29,6 @@ pub enum Moved {
 pub enum Counted {
     Read { made: usize, falls: u64, row: usize },
     Stopped { at: usize },
-}
-
-// The walk's answer. `numberOf` and `valuesOf` of specs/ give each case's number and values.
-pub enum Walked {
-    Accepted {
-        reports: usize,
-        falls: u64,
-        held: u8,
-    },
-    TooLong,
-    BadRows {
-        rows: usize,
-    },
-    Damaged {
-        at: usize,
-    },
-    NoRoom {
-        needed: usize,
-    },
-}
-
-impl Walked {
-    // The paper's number of an answer.
-    pub fn number(self) -> usize
-        ensures { λ r. ⌜ r ≡ numberOf self ⌝ }
-    {
-        match self {
-            Walked::Accepted {
-                reports: _,
-                falls: _,
-                held: _,
-            } => 0,
-            Walked::TooLong => 11,
-            Walked::BadRows { rows: _ } => 12,
-            Walked::Damaged { at: _ } => 13,
-            Walked::NoRoom { needed: _ } => 14,
-        }
-    }
-
-    // Its value, or the first of the three of an accepted walk.
-    pub fn value(self) -> usize
-        ensures { λ r. ⌜ r ≡ valueOf self ⌝ }
-    {
-        match self {
-            Walked::Accepted {
-                reports,
-                falls: _,
-                held: _,
-            } => reports,
-            Walked::TooLong => Book::TEXT,
-            Walked::BadRows { rows } => rows,
-            Walked::Damaged { at } => at,
-            Walked::NoRoom { needed } => needed,
-        }
-    }
 }
 
 fn wide(x: u16) -> usize

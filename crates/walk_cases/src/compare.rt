@@ -13,7 +13,7 @@ use crate::search::refused;
 use crate::search::search;
 use crate::tables;
 use crate::tables::Tables;
-use walk::Walked;
+use answers::Walked;
 ghost use Prim.Native.Nat.{_≤_};
 
 const LONGEST: usize = 1048576;

@@ -10,8 +10,8 @@ use crate::report::key_of;
 use crate::report::letter;
 use crate::report::pick;
 use crate::search;
-use tally::Tallied;
-use walk::Walked;
+use answers::Tallied;
+use answers::Walked;
 ghost use Prim.Native.Nat.{_≤_};
 
 pub struct Tables {

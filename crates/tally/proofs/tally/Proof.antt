@@ -11,7 +11,7 @@ use Rattle.lent.specs.Lent.{five, hasRows}
 use Rattle.walk.specs.Walk.{moveOf}
 use Rattle.lines.specs.declared.Pass.{Pass}
 use Rattle.lines.specs.declared.Pass.the-variants.{Through}
-use Rattle.tally.specs.declared.Tallied.the-variants.{Accepted}
+use Rattle.answers.specs.declared.Tallied.the-variants.{Accepted}
 use Rattle.tally.specs.Tally.{linesPass, sumsOf, judged, walked, tallyOf}
 use Rattle.tally.proofs.Adding.{room-zeros}
 use Rattle.tally.proofs.Walks.{lines-length}

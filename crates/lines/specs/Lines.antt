@@ -51,7 +51,7 @@ unfoldable pub upTo : ℕ → List ℕ → ℕ
 upTo mark [] = 0
 upTo mark (c ∷ text) = cond (eqb c mark) 0 (suc (upTo mark text))
 
--- the place of the first mark from `from` on, or the length
+-- the place of the first mark from `from` on, or the length; `from` itself where that is past the end
 abbrev pub markFrom : ℕ → ℕ → List ℕ → ℕ
 markFrom mark from text = from + upTo mark (drop from text)
 

@@ -26,13 +26,21 @@ const PLACES: usize = 2048;
 const OLD: u32 = 7;
 
 // Walks the text with some room for reports, and compares with what is found there.
-pub fn walk_text(run: &mut [u64; 256], t: Tables, how: &[u64], text: &[u8], key: u64, kind: usize) {
+pub fn walk_text(
+    run: &mut [u64; 256],
+    t: Tables,
+    goto: &[u16; 16384],
+    how: &[u64],
+    text: &[u8],
+    key: u64,
+    kind: usize,
+) {
     let mut pairs = [0u64; 8192];
     let found = search(how, text, &mut pairs);
     let places = places_for(key, found.value);
     let meant = answer_for(found, t.lent, t.n, text.len(), places);
     let mut reports = [OLD; 2048];
-    let walked = tables::walk(t, text, &mut reports[0..places]);
+    let walked = tables::walk(t, goto, text, &mut reports[0..places]);
     count(run, plus(kind, meant.number), 1);
     judge(run, walked, meant, &pairs, &reports);
 }
@@ -117,6 +125,7 @@ const BEFORE: u64 = 9;
 pub fn tally_text(
     run: &mut [u64; 256],
     t: Tables,
+    goto: &[u16; 16384],
     how: &[u64],
     profile: &[u8],
     wanted: usize,
@@ -131,7 +140,7 @@ pub fn tally_text(
         meant = refused(summed.number, summed.value);
     }
     let mut buffer = [BEFORE; 262];
-    let tallied = tables::tally(t, profile, &mut buffer[0..places]);
+    let tallied = tables::tally(t, goto, profile, &mut buffer[0..places]);
     count(run, plus(kind, meant.number), 1);
     expect(run, tallied.number() == meant.number, b"number of a tally");
     expect(run, tallied.value() == meant.value, b"value of a tally");

@@ -111,13 +111,18 @@ fn add(sums: &mut [u64; 512], pairs: &[u64; 8192], reports: usize, count: u64, l
     again
 }
 
-// The frames of the line from `from` to `to`; its place and 1 is its number. The pairs have room for every rule at each end of a frame, which is shorter
-// than 16 bytes.
-fn add_line(how: &[u64], profile: &[u8], from: usize, to: usize, sums: &mut [u64; 512]) -> Summed {
+// The frames of the line from `from` to `to`; its place and 1 is its number.
+fn add_line(
+    how: &[u64],
+    profile: &[u8],
+    from: usize,
+    to: usize,
+    pairs: &mut [u64; 8192],
+    sums: &mut [u64; 512],
+) -> Summed {
     let space = last_space(profile, from, to);
     let count = count_of(profile, from, to);
     let line = plus(from, 1) as u64;
-    let mut pairs = [0u64; 8192];
     let mut again = 0;
     let mut start = from;
     for _ in from..plus(space, 1) {
@@ -125,7 +130,7 @@ fn add_line(how: &[u64], profile: &[u8], from: usize, to: usize, sums: &mut [u64
             break;
         }
         let end = next(profile, start, space, FRAME_END);
-        let found = search(how, part(profile, start, end), &mut pairs);
+        let found = search(how, part(profile, start, end), pairs);
         if found.number != 0 {
             return Summed {
                 number: found.number,
@@ -133,7 +138,7 @@ fn add_line(how: &[u64], profile: &[u8], from: usize, to: usize, sums: &mut [u64
                 again,
             };
         }
-        again = plus(again, add(sums, &pairs, found.value, count, line));
+        again = plus(again, add(sums, pairs, found.value, count, line));
         start = plus(end, 1);
     }
     Summed {
@@ -143,9 +148,10 @@ fn add_line(how: &[u64], profile: &[u8], from: usize, to: usize, sums: &mut [u64
     }
 }
 
-// Of a profile whose lines keep the rules.
+// Of a profile whose lines keep the rules. The pairs have room for every rule at each end of a frame, which is shorter than 16 bytes.
 pub fn add_lines(how: &[u64], profile: &[u8], sums: &mut [u64; 512]) -> Summed {
     let size = profile.len();
+    let mut pairs = [0u64; 8192];
     let mut again = 0;
     let mut from = 0;
     for _ in 0..size {
@@ -153,7 +159,7 @@ pub fn add_lines(how: &[u64], profile: &[u8], sums: &mut [u64; 512]) -> Summed {
             break;
         }
         let to = next(profile, from, size, LINE_END);
-        let added = add_line(how, profile, from, to, sums);
+        let added = add_line(how, profile, from, to, &mut pairs, sums);
         if added.number != 0 {
             return added;
         }

@@ -42,13 +42,14 @@ fn one(run: &mut [u64; 256], number: usize) {
     let mut bytes = [0u8; 2560];
     let size = draw::book(&mut bytes, key, rules);
     let book = first(&bytes, size);
-    let t = tables::built(book);
+    let mut goto = [0u16; 16384];
+    let t = tables::built(book, &mut goto);
     if 0 < t.n {
         count(run, report::BUILT, 1);
         if 64 < rules {
             count(run, report::LARGE, 1);
         }
-        searched(run, t, &tables::rules_of(book), key);
+        searched(run, t, goto, &tables::rules_of(book), key);
     }
 }
 
@@ -65,16 +66,25 @@ fn many(turn: usize) -> usize {
 }
 
 // Four texts and profiles over the tables as built, and eight over damaged ones.
-fn searched(run: &mut [u64; 256], t: Tables, rules: &[u64; 16898], key: u64) {
+fn searched(run: &mut [u64; 256], t: Tables, goto: [u16; 16384], rules: &[u64; 16898], key: u64) {
     let mut numbers = [0u64; 16898];
     for turn in 0..12usize {
         let own = key_of(key, plus(100, turn));
         if turn < 4 {
-            both(run, t, rules, own, report::WALKED, report::TALLIED);
+            both(run, t, &goto, rules, own, report::WALKED, report::TALLIED);
         } else {
-            let now = tables::damaged(t, own);
-            tables::numbers_of(now, &mut numbers);
-            both(run, now, &numbers, own, report::DAMAGED, report::SPOILED);
+            let mut other = goto;
+            let now = tables::damaged(t, &mut other, own);
+            tables::numbers_of(now, &other, &mut numbers);
+            both(
+                run,
+                now,
+                &other,
+                &numbers,
+                own,
+                report::DAMAGED,
+                report::SPOILED,
+            );
         }
     }
 }
@@ -83,6 +93,7 @@ fn searched(run: &mut [u64; 256], t: Tables, rules: &[u64; 16898], key: u64) {
 fn both(
     run: &mut [u64; 256],
     t: Tables,
+    goto: &[u16; 16384],
     how: &[u64; 16898],
     key: u64,
     walked: usize,
@@ -90,11 +101,11 @@ fn both(
 ) {
     let mut text = [0u8; 2560];
     let size = draw::text(&mut text, key_of(key, 20));
-    compare::walk_text(run, t, how, first(&text, size), key, walked);
+    compare::walk_text(run, t, goto, how, first(&text, size), key, walked);
     let mut profile = [0u8; 2560];
     let end = draw::profile(&mut profile, key_of(key, 21));
     let places = places_for(key);
-    compare::tally_text(run, t, how, first(&profile, end), places, tallied);
+    compare::tally_text(run, t, goto, how, first(&profile, end), places, tallied);
 }
 
 // Mostly 256 or more, and often just about so many.

@@ -1,5 +1,5 @@
 // The tables of a book, as built or damaged, each cut to its length, with the rows that these lend and the row count that they are walked with; and the
-// numbers to search by.
+// numbers to search by. goto, the largest, is lent beside the others, which are copied where they are passed.
 use crate::leaf::above;
 use crate::leaf::at8;
 use crate::leaf::part;
@@ -15,7 +15,6 @@ use answers::Walked;
 ghost use Prim.Native.Nat.{_≤_};
 
 pub struct Tables {
-    pub goto: [u16; 16384],
     pub fall: [u16; 64],
     pub held: [u8; 64],
     pub live: [u64; 256],
@@ -30,20 +29,18 @@ pub struct Tables {
 }
 
 // The tables of the book in the bytes, or N 0 where it is refused.
-pub fn built(bytes: &[u8]) -> Tables {
-    let mut goto = [0u16; 16384];
+pub fn built(bytes: &[u8], goto: &mut [u16; 16384]) -> Tables {
     let mut fall = [0u16; 64];
     let mut held = [0u8; 64];
     let mut live = [0u64; 256];
     let mut out = [0u64; 256];
-    let answer = build::build(bytes, &mut goto, &mut fall, &mut held, &mut live, &mut out);
+    let answer = build::build(bytes, goto, &mut fall, &mut held, &mut live, &mut out);
     let n = if answer.number() == 0 {
         answer.value()
     } else {
         0
     };
     Tables {
-        goto,
         fall,
         held,
         live,
@@ -65,14 +62,14 @@ fn rows_lent(g: usize, f: usize, h: usize, l: usize, o: usize) -> usize {
 // ---- damages
 
 // An entry of goto, fall or out changed, another N, or each buffer as long as the rows need, or a little longer or shorter.
-pub fn damaged(t: Tables, key: u64) -> Tables {
+pub fn damaged(t: Tables, goto: &mut [u16; 16384], key: u64) -> Tables {
     let mut now = t;
     let rows = t.n;
     let row = pick(key, 1, rows) % 64;
     match pick(key, 0, 5) {
         0 => {
             let place = plus(256 * row, letter(key, 2)) % 16384;
-            now.goto[place] = odd_row(key, rows);
+            goto[place] = odd_row(key, rows);
         }
         1 => {
             now.fall[row] = odd_row(key, rows);
@@ -123,14 +120,13 @@ fn first64(a: &[u64], size: usize) -> &[u64] {
     &a[0..end]
 }
 
-pub fn walk(t: Tables, text: &[u8], reports: &mut [u32]) -> Walked {
-    let goto = t.goto;
+pub fn walk(t: Tables, goto: &[u16; 16384], text: &[u8], reports: &mut [u32]) -> Walked {
     let fall = t.fall;
     let held = t.held;
     let live = t.live;
     let out = t.out;
     walk::walk(
-        first16(&goto, t.g),
+        first16(goto, t.g),
         first16(&fall, t.f),
         part(&held, 0, t.h),
         first64(&live, t.l),
@@ -141,14 +137,13 @@ pub fn walk(t: Tables, text: &[u8], reports: &mut [u32]) -> Walked {
     )
 }
 
-pub fn tally(t: Tables, profile: &[u8], sums: &mut [u64]) -> Tallied {
-    let goto = t.goto;
+pub fn tally(t: Tables, goto: &[u16; 16384], profile: &[u8], sums: &mut [u64]) -> Tallied {
     let fall = t.fall;
     let held = t.held;
     let live = t.live;
     let out = t.out;
     tally::tally(
-        first16(&goto, t.g),
+        first16(goto, t.g),
         first16(&fall, t.f),
         part(&held, 0, t.h),
         first64(&live, t.l),
@@ -199,14 +194,13 @@ pub fn rules_of(bytes: &[u8]) -> [u64; 16898] {
 }
 
 // What rows from N on hold is not looked at, and stays.
-pub fn numbers_of(t: Tables, how: &mut [u64; 16898]) {
+pub fn numbers_of(t: Tables, goto: &[u16; 16384], how: &mut [u64; 16898]) {
     let out = t.out;
     copy64(&out, how, search::OUT);
     let held = t.held;
     copy8(&held, how, search::HELD);
     let fall = t.fall;
     copy16(&fall, how, search::FALL);
-    let goto = t.goto;
-    copy16(first16(&goto, 256 * (t.n % 65)), how, 0);
+    copy16(first16(goto, 256 * (t.n % 65)), how, 0);
     put64(how, search::ROWS, t.n as u64);
 }

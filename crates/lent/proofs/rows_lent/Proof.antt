@@ -1,4 +1,5 @@
 -- `rows_lent` meets its contract. Assumes nothing.
+use mathlib.Core.Path.{refl}
 use borrow.Author.Needs.{needs}
 use Rattle.lent.proofs.rows_lent.Statement.{statement}
 use Rattle.lent.proofs.rows_lent.Tie as tie
@@ -19,7 +20,12 @@ least-requires-5 : tie.Need-least-requires-5
 least-requires-5 c κs = search needs
 
 returns : tie.Need-returns
-returns c = cc
+returns c =
+    let held = c .before in
+    let fall = held .before in
+    let sets = fall .before in
+    let out = sets .before in
+    rw (c .least5 .ensures, held .least4 .ensures, fall .least3 .ensures, sets .least2 .ensures, out .least .ensures) refl
 
 pub rows-lent-spec : {M : Type 1} → statement M
 rows-lent-spec =

@@ -34,7 +34,13 @@ same-length-5 : tie.Need-same-length-5
 same-length-5 c = search needs
 
 returns : tie.Need-returns
-returns c = (cc, cc, cc, cc, cc)
+returns c =
+    let out = c .before .before in
+    let live = out .before .before .before .before in
+    let held = live .before .before .before .before in
+    let fall = held .before .before .before .before in
+    let goto = fall .before .before .before .before in
+    (goto .zero16 .ensures, fall .zero162 .ensures, held .zero8 .ensures, live .zero64 .ensures, out .zero642 .ensures)
 
 pub zero-all-spec : {M : Type 1} → statement M
 zero-all-spec =

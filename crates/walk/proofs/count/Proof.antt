@@ -1,7 +1,7 @@
 -- `walk::count` meets its contract. Over bytes: the run from here on is the whole run; over falls: the move from here on is the byte's move.
 -- `sound` is true inside both loops, and false only where the label `bytes` is left from within. Assumes nothing.
 use Prim.Native.Nat.{ℕ, _+_, _-_, _*_, _≤_, _<_}
-use mathlib.Core.Bool.{true}
+use mathlib.Core.Bool.{true, true≢false}
 use mathlib.Core.Logic.{_≢_, ⊎-elim}
 use mathlib.Core.Path.{_≡_, sym, _∙_}
 use native.Mathlib.Omega.{arith}
@@ -103,13 +103,13 @@ returns : tie.Need-returns Inv-falls μ-falls Inv-bytes μ-bytes
 returns c =
     ⊎-elim
     (λ w. rw (w .1) (sym (run-end _ _ _ _ _ _ _ _ _ (w .0 .left)) ∙ c .before .before .bytes .inv .5))
-    (λ w. let z : _≡_ {A = ℕ} 0 1 = cc (c .if3 .taken, w .9) in absurd (omega arith))
+    (λ w. absurd (true≢false (sym (c .if3 .taken) ∙ w .9)))
     (c .before .bytes-test .came)
 
 returns-2 : tie.Need-returns-2 Inv-falls μ-falls Inv-bytes μ-bytes
 returns-2 c =
     ⊎-elim
-    (λ w. let z : _≡_ {A = ℕ} 0 1 = cc (c .before .before .bytes .inv .4, c .if3 .left, w .2) in absurd (omega arith))
+    (λ w. absurd (true≢false (sym (c .before .before .bytes .inv .4) ∙ sym (w .2) ∙ c .if3 .left)))
     (λ w.
     let l = first-wrong _ _ _ _ _ (w .2 .more) (w .3 .ensures) (w .5 .ensures) (sym (w .6 .ensures) ∙ w .7 .taken) in
     sym (run-move _ _ _ _ _ _ _ _ _ Lost (w .0 .taken) (sym (w .2 .inv .3) ∙ l)) ∙ c .before .before .bytes .inv .5)

@@ -5,10 +5,10 @@ use Rattle.walk_cases.proofs.folded.add_line.Statement.{statement}
 use Rattle.walk_cases.proofs.folded.add_line.Tie as tie
 
 abbrev Inv-loop : tie.InvT-loop
-Inv-loop how profile from to sums₀ space count line pairs₀ again₀ start₀ counter₀ end sums pairs again start counter = 0 ≤ counter
+Inv-loop how profile from to pairs₀ sums₀ space count line again₀ start₀ counter₀ end pairs sums again start counter = 0 ≤ counter
 
 abbrev μ-loop : tie.MeasureT-loop
-μ-loop how profile from to sums₀ space count line pairs₀ again₀ start₀ counter₀ end sums pairs again start counter = end - counter
+μ-loop how profile from to pairs₀ sums₀ space count line again₀ start₀ counter₀ end pairs sums again start counter = end - counter
 
 last-space-requires : tie.Need-last-space-requires Inv-loop μ-loop
 last-space-requires c κs = search needs

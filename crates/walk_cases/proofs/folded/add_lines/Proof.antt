@@ -5,10 +5,10 @@ use Rattle.walk_cases.proofs.folded.add_lines.Statement.{statement}
 use Rattle.walk_cases.proofs.folded.add_lines.Tie as tie
 
 abbrev Inv-loop : tie.InvT-loop
-Inv-loop how profile sums₀ size again₀ from₀ counter₀ sums again from counter = 0 ≤ counter
+Inv-loop how profile sums₀ size pairs₀ again₀ from₀ counter₀ sums pairs again from counter = 0 ≤ counter
 
 abbrev μ-loop : tie.MeasureT-loop
-μ-loop how profile sums₀ size again₀ from₀ counter₀ sums again from counter = size - counter
+μ-loop how profile sums₀ size pairs₀ again₀ from₀ counter₀ sums pairs again from counter = size - counter
 
 loop-holds : tie.Need-loop-holds Inv-loop μ-loop
 loop-holds c = search needs

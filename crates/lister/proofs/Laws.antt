@@ -1,19 +1,22 @@
--- A line for each report, and how long they are. Assumes nothing.
+-- The lines of a search, how long they are, and the whole answer. Assumes nothing.
 use mathlib.Core.Bool.{Bool, true, false, cond}
 use mathlib.Core.Logic.{inl, inr}
-use mathlib.Core.List.{List, [], _∷_, _++_, append-assoc, append-nil}
+use mathlib.Core.List.{List, [], _∷_}
 use mathlib.Core.Path.{_≡_, refl, sym, ap, subst, _∙_}
-use Prim.Native.Nat.{ℕ, zero, suc, _+_, _-_, _*_, _/_, _^_, _≤_, _<_}
+use Prim.Native.Nat.{ℕ, _+_, _*_, _/_, _^_, _≤_, _<_}
 use native.Mathlib.Omega.{arith}
-use native.Mathlib.Numerals.{add-one}
 use types.Run.{OneOf}
 use denote.Enum.Declared.{tagOf}
 use lib.Dec.{ltb}
-use lib.ListN.{length, getD, take, drop, length-append}
-use lib.Seq.{take-suc, take-at, length-take-le}
-use Rattle.output.specs.Printed.{Puts, pairLine, refusedLine}
-use Rattle.output.proofs.Room.{numeral-32, numeral-64, pair-length, refused-length}
+use lib.ListN.{length, getD, take, drop}
+use lib.Seq.{take-at}
+use Rattle.output.specs.Printed.{Puts, refusedLine, builtLine}
+use Rattle.output.proofs.Room.{refused-length, whole-refused, whole-accepted}
+use Rattle.shown.specs.Shown.{shownLines}
+use Rattle.inputs.specs.Inputs.{lentTables}
 use Rattle.meaning.specs.Tables.{Five}
+use Rattle.promised.specs.declared.Built.{Built}
+use Rattle.promised.specs.Promise.{Promise, numberOf as builtNumber, valueOf as builtValue}
 use Rattle.lent.specs.Lent.{hasRows}
 use Rattle.walk.specs.declared.Counted.{Counted}
 use Rattle.walk.specs.declared.Counted.the-variants.{Read, Stopped}
@@ -26,51 +29,7 @@ use Rattle.lent.proofs.HasRows.{has-rows}
 use Rattle.walk.proofs.Laws.{Right, counted}
 use Rattle.walk.proofs.Room.{accepted-within}
 use Rattle.book.specs.Limits.{mostBytes}
-use Rattle.lister.specs.Listing.{reportLines, shownLines, walkedLines, searchLines, PutsSearch}
-
--- ---- lines put behind lines
-
-lines-append : (xs ys : List ℕ) (i : ℕ) → length xs ≡ 2 * i → reportLines (xs ++ ys) ≡ reportLines xs ++ reportLines ys
-unfolding reportLines
-lines-append [] ys i h = refl
-lines-append (x ∷ []) ys i h = absurd (omega arith)
-lines-append (x ∷ y ∷ xs) ys i h =
-    let line = pairLine [] x (32 ∷ []) y in
-    ap (λ ls. line ++ ls) (lines-append xs ys (i - 1) (omega arith)) ∙ sym (append-assoc line (reportLines xs) (reportLines ys))
-
--- one report more
-pub lines-next : (reports : List ℕ) (i : ℕ) → 2 * i + 1 < length reports
-    → reportLines (take (2 * (i + 1)) reports) ≡ reportLines (take (2 * i) reports) ++ pairLine [] (getD reports (2 * i) 0) (32 ∷ []) (getD reports (2 * i + 1) 0)
-unfolding reportLines
-lines-next reports i h =
-    let a = getD reports (2 * i) 0 in
-    let b = getD reports (2 * i + 1) 0 in
-    let n : 2 * (i + 1) ≡ suc (2 * i + 1) = omega arith in
-    let two : take (2 * (i + 1)) reports ≡ take (2 * i) reports ++ (a ∷ b ∷ []) =
-    ap (λ k. take k reports) n ∙ take-suc reports (2 * i + 1) 0 h
-    ∙ ap (λ l. l ++ (b ∷ [])) (ap (λ k. take k reports) (add-one (2 * i)) ∙ take-suc reports (2 * i) 0 (omega arith))
-    ∙ append-assoc (take (2 * i) reports) (a ∷ []) (b ∷ []) in
-    ap reportLines two
-    ∙ lines-append (take (2 * i) reports) (a ∷ b ∷ []) i (length-take-le (2 * i) reports (omega arith))
-    ∙ ap (λ l. reportLines (take (2 * i) reports) ++ l) (append-nil (pairLine [] a (32 ∷ []) b))
-
--- ---- how long they are
-
-report-length : (a b : ℕ) → a < 2 ^ 32 → b < 2 ^ 32 → length (pairLine [] a (32 ∷ []) b) ≤ 22
-report-length a b h k = omega (arith, pair-length [] (32 ∷ []) a b, numeral-32 a h, numeral-32 b k)
-
-pub lines-length : (reports : List ℕ) (made : ℕ) → 2 * made ≤ length reports → ((i : ℕ) → getD reports i 0 < 2 ^ 32) → length (reportLines (take (2 * made) reports)) ≤ 22 * made
-unfolding reportLines
-lines-length reports zero h small = omega arith
-lines-length reports (suc i) h small =
-    let k : 2 * i + 1 < length reports = omega arith in
-    rw (← add-one i) (rw (lines-next reports i k, length-append) (omega (arith, lines-length reports i (omega arith) small, report-length _ _ (small (2 * i)) (small (2 * i + 1)))))
-
-pub shown-length : (reports : List ℕ) (made falls held : ℕ) → 2 * made ≤ length reports → ((i : ℕ) → getD reports i 0 < 2 ^ 32) → falls < 2 ^ 64 → held < 2 ^ 64
-    → length (shownLines (take (2 * made) reports) falls held) ≤ 22 * made + 64
-shown-length reports made falls held h small f l =
-    let last = pair-length (102 ∷ 97 ∷ 108 ∷ 108 ∷ 115 ∷ 32 ∷ []) (32 ∷ 104 ∷ 101 ∷ 108 ∷ 100 ∷ 32 ∷ []) falls held in
-    rw length-append (omega (arith, last, lines-length reports made h small, numeral-64 falls f, numeral-64 held l))
+use Rattle.lister.specs.Listing.{walkedLines, searchLines, PutsSearch, listRoom, ListerAnswer}
 
 -- ---- the reports of an accepted walk
 
@@ -116,21 +75,24 @@ not-shown (Damaged at) reports k = refl
 not-shown (NoRoom made) reports k = refl
 
 module _ (b : Five) (n : ℕ) (text : List ℕ) where
+  -- the reports that an accepted walk made are in their buffer
+  pub made-within : {space places made falls last : ℕ} {r : Walked} → places ≡ space → r ≡ walkOf b n text space → r ≡ Accepted made falls last → 2 * made ≤ places
+  made-within = accepted-within (b .goto) (b .fall) (b .held) (b .live) (b .out) text n
+
   -- what such a walk left in front of the report buffer are its reports, and the lines shown are those of the search
   pub search-shown :
-      {made falls last at e : ℕ} {r : Walked} {l l′ : List ℕ} (old new : List ℕ) → length old ≡ 16384 → r ≡ walkOf b n text (length old) → r ≡ Accepted made falls last
-      → new ≡ bufferOf r (reportsOf (b .goto) (b .fall) (b .out) n text) old → length (shownLines (take (2 * made) new) falls last) ≤ 22 * made + 64
-      → Puts (shownLines (take (2 * made) new) falls last) l at l′ e → PutsSearch b n text l at l′ e
+      {made k falls last at e : ℕ} {r : Walked} {l l′ : List ℕ} (old new : List ℕ) → length old ≡ 16384 → r ≡ walkOf b n text (length old) → r ≡ Accepted made falls last
+      → new ≡ bufferOf r (reportsOf (b .goto) (b .fall) (b .out) n text) old → k ≡ 2 * made → length (shownLines (take k new) falls last) ≤ 11 * length (take k new) + 64
+      → Puts (shownLines (take k new) falls last) l at l′ e → PutsSearch b n text l at l′ e
   unfolding written
-  search-shown {made} {falls} {last} {at} {e} {r} {l} {l′} old new size p q z short put =
+  search-shown {made} {k} {falls} {last} {at} {e} {r} {l} {l′} old new size p q z twice short put =
       let reports = reportsOf (b .goto) (b .fall) (b .out) n text in
       let is : walkOf b n text 16384 ≡ Accepted made falls last = ap (walkOf b n text) (sym size) ∙ sym p ∙ q in
-      let many = subst (λ w. Told w reports) is (told b n text 16384) in
-      let few : 2 * made ≤ 16384 = accepted-within (b .goto) (b .fall) (b .held) (b .live) (b .out) text n (sym size) p q in
+      let many : 2 * made ≡ length reports = subst (λ w. Told w reports) is (told b n text 16384) in
       let left : new ≡ written reports old = z ∙ ap (λ w. bufferOf w reports old) q in
-      let all : take (2 * made) new ≡ reports = ap (take (2 * made)) left ∙ take-at reports (drop (length reports) old) (2 * made) (sym many) in
-      let lines : shownLines (take (2 * made) new) falls last ≡ searchLines b n text = ap (λ rs. shownLines rs falls last) all ∙ ap (λ w. walkedLines w reports) (sym is) in
-      (omega (arith, ap length lines, short, few), subst (λ ls. Puts ls l at l′ e) lines put)
+      let all : take k new ≡ reports = ap (take k) left ∙ take-at reports (drop (length reports) old) k (sym (twice ∙ many)) in
+      let lines : shownLines (take k new) falls last ≡ searchLines b n text = ap (λ rs. shownLines rs falls last) all ∙ ap (λ w. walkedLines w reports) (sym is) in
+      (omega (arith, ap length lines, short, made-within (sym size) p q, ap length all, many), subst (λ ls. Puts ls l at l′ e) lines put)
 
   -- the line of a refusal is that of the search
   pub search-refused :
@@ -141,3 +103,21 @@ module _ (b : Five) (n : ℕ) (text : List ℕ) where
       let reports = reportsOf (b .goto) (b .fall) (b .out) n text in
       let lines : refusedLine (numberOf r) (valueOf r) ≡ searchLines b n text = sym (not-shown r reports k) ∙ ap (λ w. walkedLines w reports) (p ∙ ap (walkOf b n text) size) in
       (omega (arith, ap length lines, refused-length (numberOf r) (valueOf r) i v), subst (λ ls. Puts ls l at l′ e) lines put)
+
+-- ---- the whole answer
+
+module _ {book text : List ℕ} (b : Five) (x : Built) (kept : Promise book lentTables b x) where
+  -- of a build that is refused
+  pub answer-refused : {i v n r : ℕ} {l l′ : List ℕ} → listRoom ≤ length l → i ≡ builtNumber x → v ≡ builtValue x → i < 2 ^ 64 → v < 2 ^ 64 → Puts (builtLine i v) l 0 l′ r
+      → n ≡ builtNumber x → (n ≡ 0 → ⊥) → (r ≤ length l′) × ListerAnswer book text (take r l′)
+  answer-refused room p q i v put m refused =
+      let (end, lines) = whole-refused (builtNumber x) (builtValue x) (searchLines b (builtValue x) text) (omega arith) (λ z. refused (m ∙ z)) (omega arith) (omega arith) (rw (p, q) at put) in
+      (end, record { built = x; tables = b; kept = kept; lines = lines })
+
+  -- of one that is accepted
+  pub answer-accepted : {i v n w at r : ℕ} {l l₁ l′ : List ℕ} → listRoom ≤ length l → i ≡ builtNumber x → v ≡ builtValue x → v < 2 ^ 64 → Puts (builtLine i v) l 0 l₁ at
+      → n ≡ builtNumber x → n ≡ 0 → w ≡ builtValue x → PutsSearch b w text l₁ at l′ r → (r ≤ length l′) × ListerAnswer book text (take r l′)
+  answer-accepted room p q v put m accepted s (short, next) =
+      let fits = rw s at short in
+      let (end, lines) = whole-accepted (builtNumber x) (builtValue x) (searchLines b (builtValue x) text) (omega (arith, fits)) (sym m ∙ accepted) (omega arith) (rw (p, q) at put) (rw s at next) in
+      (end, record { built = x; tables = b; kept = kept; lines = lines })

@@ -1,10 +1,11 @@
 -- The lines that the lister writes, in the paper's words. Assumes nothing.
-use mathlib.Core.List.{List, [], _∷_, _++_}
+use mathlib.Core.List.{List}
 use mathlib.Core.Path.{_≡_}
 use Prim.Native.Nat.{ℕ, _+_, _*_, _≤_}
 use lib.ListN.{length}
 use Rattle.inputs.specs.Inputs.{lentTables}
-use Rattle.output.specs.Printed.{Puts, pairLine, refusedLine, answerLines}
+use Rattle.output.specs.Printed.{Puts, refusedLine, answerLines}
+use Rattle.shown.specs.Shown.{shownLines}
 use Rattle.meaning.specs.Tables.{Five}
 use Rattle.promised.specs.declared.Built.{Built}
 use Rattle.promised.specs.Promise.{Promise, numberOf as builtNumber, valueOf as builtValue}
@@ -12,16 +13,6 @@ use Rattle.answers.specs.declared.Walked.{Walked}
 use Rattle.answers.specs.declared.Walked.the-variants.{Accepted, TooLong, BadRows, Damaged, NoRoom}
 use Rattle.answers.specs.Walked.{numberOf, valueOf}
 use Rattle.walk.specs.Walk.{walkOf, reportsOf}
-
--- one line a report: the end, the rule
-unfoldable pub reportLines : List ℕ → List ℕ
-reportLines [] = []
-reportLines (end ∷ []) = []
-reportLines (end ∷ rule ∷ reports) = pairLine [] end (32 ∷ []) rule ++ reportLines reports
-
--- the reports, then `falls FALLBACKS held LENGTH`
-abbrev pub shownLines : List ℕ → ℕ → ℕ → List ℕ
-shownLines reports falls held = reportLines reports ++ pairLine (102 ∷ 97 ∷ 108 ∷ 108 ∷ 115 ∷ 32 ∷ []) falls (32 ∷ 104 ∷ 101 ∷ 108 ∷ 100 ∷ 32 ∷ []) held
 
 -- of a walk's answer, with the reports that it made
 abbrev pub walkedLines : Walked → List ℕ → List ℕ

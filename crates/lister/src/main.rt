@@ -3,13 +3,11 @@
 
 use answers::Walked;
 use inputs::Both;
-ghost use mathlib.Core.Path.{_≡_};
-ghost use Prim.Native.Nat.{_+_, _*_, _≤_};
+ghost use Prim.Native.Nat.{_≤_};
 ghost use lib.ListN.{length, take};
 ghost use Rattle.moments.specs.Moments.{was, left};
 ghost use Rattle.lent.specs.Lent.{given};
-ghost use Rattle.output.specs.Printed.{Puts};
-ghost use Rattle.lister.specs.Listing.{reportLines, shownLines, PutsSearch, listRoom, ListerAnswer};
+ghost use Rattle.lister.specs.Listing.{PutsSearch, listRoom, ListerAnswer};
 
 // How many reports there is room for, and the places of their buffer, two a report.
 const REPORTS: usize = 8192;
@@ -86,45 +84,7 @@ fn search(
             reports: made,
             falls,
             held: last,
-        } => show(&reports, made, falls, last, answer, at),
+        } => shown::put_walk(answer, at, &reports[0..2 * made], falls, last),
         _ => output::put_refusal(answer, at, walked.number(), walked.value()),
     }
-}
-
-// Puts what an accepted walk answers: its reports, then the fallbacks with the held length.
-fn show(reports: &[u32], made: usize, falls: u64, held: u8, answer: &mut [u8], at: usize) -> usize
-    requires { ⌜ 2 * made ≤ length (now reports) ⌝ }
-    ensures { λ _. ⌜ length (shownLines (take (2 * made) (was reports)) falls held) ≤ 22 * made + 64 ⌝ }
-    ensures { λ r. ⌜ Puts (shownLines (take (2 * made) (was reports)) falls held) (was answer) at (left answer) r ⌝ }
-{
-    let end = show_reports(reports, made, answer, at);
-    output::put_pair(answer, end, b"falls ", falls, b" held ", held as u64)
-}
-
-// Puts a line for each report made: the end and the rule.
-fn show_reports(reports: &[u32], made: usize, answer: &mut [u8], at: usize) -> usize
-    requires { ⌜ 2 * made ≤ length (now reports) ⌝ }
-    ensures { λ _. ⌜ length (reportLines (take (2 * made) (was reports))) ≤ 22 * made ⌝ }
-    ensures { λ r. ⌜ Puts (reportLines (take (2 * made) (was reports))) (was answer) at (left answer) r ⌝ }
-{
-    let mut to = at;
-    let mut i = 0;
-    while i < made {
-        to = output::put_pair(
-            answer,
-            to,
-            b"",
-            wide(reports[2 * i]),
-            b" ",
-            wide(reports[2 * i + 1]),
-        );
-        i += 1;
-    }
-    to
-}
-
-fn wide(x: u32) -> u64
-    ensures { λ r. ⌜ r ≡ x ⌝ }
-{
-    x as u64
 }

@@ -1,57 +1,22 @@
--- A line for each sum, and how long they are. Assumes nothing.
+-- The lines of a tally, how long they are, and the whole answer. Assumes nothing.
 use mathlib.Core.Bool.{cond}
-use mathlib.Core.List.{List, [], _∷_, _++_, append-assoc, append-nil}
-use mathlib.Core.Path.{_≡_, refl, sym, ap, subst, _∙_}
-use Prim.Native.Nat.{ℕ, zero, suc, _+_, _*_, _^_, _≤_, _<_}
-use native.Mathlib.Nat.{add-zero, zero-add}
+use mathlib.Core.List.{List}
+use mathlib.Core.Path.{_≡_, sym, ap, subst, _∙_}
+use Prim.Native.Nat.{ℕ, _*_, _^_, _≤_, _<_}
 use native.Mathlib.Omega.{arith}
-use native.Mathlib.Decide.{decLt}
-use native.Mathlib.Numerals.{add-one}
 use borrow.Author.Tests.{eq-eqb, ne-eqb}
-use lib.ListN.{length, getD, take, length-append}
-use lib.Seq.{take-suc, length-take-le}
-use Rattle.output.specs.Printed.{Puts, refusedLine}
-use Rattle.output.proofs.Room.{numeral-64, pair-length, refused-length}
+use lib.ListN.{length, take}
+use Rattle.output.specs.Printed.{Puts, refusedLine, builtLine}
+use Rattle.output.proofs.Room.{refused-length, whole-refused, whole-accepted}
+use Rattle.shown.specs.Shown.{sumLines}
+use Rattle.inputs.specs.Inputs.{lentTables}
 use Rattle.meaning.specs.Tables.{Five}
+use Rattle.promised.specs.declared.Built.{Built}
+use Rattle.promised.specs.Promise.{Promise, numberOf as builtNumber, valueOf as builtValue}
 use Rattle.answers.specs.declared.Tallied.{Tallied}
 use Rattle.answers.specs.Tallied.{numberOf, valueOf}
 use Rattle.tally.specs.Tally.{tallyOf}
-use Rattle.summer.specs.Summing.{sumLine, sumLines, talliedLines, leftSums, totalLines, totalRoom, PutsTotal}
-
--- ---- lines put behind lines
-
-lines-append : (xs ys : List ℕ) (rule : ℕ) → sumLines rule (xs ++ ys) ≡ sumLines rule xs ++ sumLines (rule + length xs) ys
-unfolding sumLines
-lines-append [] ys rule = rw (add-zero rule) refl
-lines-append (x ∷ xs) ys rule =
-    let e : rule + 1 + length xs ≡ rule + suc (length xs) = omega arith in
-    ap (λ ls. sumLine rule x ++ ls) (lines-append xs ys (rule + 1) ∙ ap (λ k. sumLines (rule + 1) xs ++ sumLines k ys) e)
-    ∙ sym (append-assoc (sumLine rule x) (sumLines (rule + 1) xs) (sumLines (rule + suc (length xs)) ys))
-
--- one sum more
-pub lines-next : (sums : List ℕ) (k : ℕ) → k < length sums → sumLines 0 (take (k + 1) sums) ≡ sumLines 0 (take k sums) ++ sumLine k (getD sums k 0)
-unfolding sumLines
-lines-next sums k h =
-    let e : 0 + length (take k sums) ≡ k = zero-add (length (take k sums)) ∙ length-take-le k sums (omega arith) in
-    ap (λ j. sumLines 0 (take j sums)) (add-one k)
-    ∙ ap (sumLines 0) (take-suc sums k 0 h)
-    ∙ lines-append (take k sums) (getD sums k 0 ∷ []) 0
-    ∙ ap (λ ls. sumLines 0 (take k sums) ++ ls) (append-nil (sumLine (0 + length (take k sums)) (getD sums k 0)) ∙ ap (λ j. sumLine j (getD sums k 0)) e)
-
--- ---- how long they are
-
-sum-length : (rule sum : ℕ) → rule < 2 ^ 64 → sum < 2 ^ 64 → length (sumLine rule sum) ≤ 42
-sum-length rule sum h k =
-    elim (decLt 0 sum) [
-      | yes l ↦ rw (ne-eqb sum 0 (omega arith)) (omega (arith, pair-length [] (32 ∷ []) rule sum, numeral-64 rule h, numeral-64 sum k))
-      | no g ↦ rw (eq-eqb sum 0 (omega arith)) (omega arith)
-    ]
-
-pub lines-length : (sums : List ℕ) (k : ℕ) → k ≤ length sums → length sums < 2 ^ 64 → ((i : ℕ) → getD sums i 0 < 2 ^ 64) → length (sumLines 0 (take k sums)) ≤ 42 * k
-unfolding sumLines
-lines-length sums zero h l small = omega arith
-lines-length sums (suc k) h l small =
-    rw (← add-one k) (rw (lines-next sums k (omega arith), length-append) (omega (arith, lines-length sums k (omega arith) l small, sum-length k (getD sums k 0) (omega arith) (small k))))
+use Rattle.summer.specs.Summing.{talliedLines, leftSums, totalLines, totalRoom, PutsTotal, sumsRoom, SummerAnswer}
 
 -- ---- the lines of a tally
 
@@ -82,3 +47,21 @@ module _ (b : Five) (n : ℕ) (profile : List ℕ) {x : Tallied} (places : ℕ) 
       ∙ ap (λ q. cond q (sumLines 0 (leftSums x b n profile)) (refusedLine (numberOf x) (valueOf x))) (sym (eq-eqb (numberOf x) 0 accepted))
       ∙ ap (λ y. talliedLines y (leftSums y b n profile)) is in
       put lines (omega (arith, many, short)) p
+
+-- ---- the whole answer
+
+module _ {book profile : List ℕ} (b : Five) (x : Built) (kept : Promise book lentTables b x) where
+  -- of a build that is refused
+  pub answer-refused : {i v n r : ℕ} {l l′ : List ℕ} → sumsRoom ≤ length l → i ≡ builtNumber x → v ≡ builtValue x → i < 2 ^ 64 → v < 2 ^ 64 → Puts (builtLine i v) l 0 l′ r
+      → n ≡ builtNumber x → (n ≡ 0 → ⊥) → (r ≤ length l′) × SummerAnswer book profile (take r l′)
+  answer-refused room p q i v put m refused =
+      let (end, lines) = whole-refused (builtNumber x) (builtValue x) (totalLines b (builtValue x) profile) (omega arith) (λ z. refused (m ∙ z)) (omega arith) (omega arith) (rw (p, q) at put) in
+      (end, record { built = x; tables = b; kept = kept; lines = lines })
+
+  -- of one that is accepted
+  pub answer-accepted : {i v n w at r : ℕ} {l l₁ l′ : List ℕ} → sumsRoom ≤ length l → i ≡ builtNumber x → v ≡ builtValue x → v < 2 ^ 64 → Puts (builtLine i v) l 0 l₁ at
+      → n ≡ builtNumber x → n ≡ 0 → w ≡ builtValue x → PutsTotal b w profile l₁ at l′ r → (r ≤ length l′) × SummerAnswer book profile (take r l′)
+  answer-accepted room p q v put m accepted s (short, next) =
+      let fits = rw s at short in
+      let (end, lines) = whole-accepted (builtNumber x) (builtValue x) (totalLines b (builtValue x) profile) (omega (arith, fits)) (sym m ∙ accepted) (omega arith) (rw (p, q) at put) (rw s at next) in
+      (end, record { built = x; tables = b; kept = kept; lines = lines })

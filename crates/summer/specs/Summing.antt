@@ -1,28 +1,20 @@
 -- The lines that the summer writes. Assumes nothing.
 use mathlib.Core.Bool.{cond}
-use mathlib.Core.List.{List, [], _∷_, _++_}
+use mathlib.Core.List.{List}
 use mathlib.Core.Path.{_≡_}
 use Prim.Native.Nat.{ℕ, _+_, _*_, _≤_}
 use lib.Dec.{eqb}
 use lib.ListN.{length, replicate}
 use Rattle.sets.specs.Table.{rulesAt}
 use Rattle.inputs.specs.Inputs.{lentTables}
-use Rattle.output.specs.Printed.{Puts, pairLine, refusedLine, answerLines}
+use Rattle.output.specs.Printed.{Puts, refusedLine, answerLines}
+use Rattle.shown.specs.Shown.{sumLines}
 use Rattle.meaning.specs.Tables.{Five}
 use Rattle.promised.specs.declared.Built.{Built}
 use Rattle.promised.specs.Promise.{Promise, numberOf as builtNumber, valueOf as builtValue}
 use Rattle.answers.specs.declared.Tallied.{Tallied}
 use Rattle.answers.specs.Tallied.{numberOf, valueOf}
 use Rattle.tally.specs.Tally.{tallyOf, sumsOf, moveBy, bufferOf}
-
--- the rule and its sum, where that is not 0
-abbrev pub sumLine : ℕ → ℕ → List ℕ
-sumLine rule sum = cond (eqb sum 0) [] (pairLine [] rule (32 ∷ []) sum)
-
--- one after another, from a rule on
-unfoldable pub sumLines : ℕ → List ℕ → List ℕ
-sumLines rule [] = []
-sumLines rule (sum ∷ sums) = sumLine rule sum ++ sumLines (rule + 1) sums
 
 -- of a tally's answer, with the sums that it left
 abbrev pub talliedLines : Tallied → List ℕ → List ℕ

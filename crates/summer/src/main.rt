@@ -3,12 +3,11 @@
 
 use book::Book;
 use inputs::Both;
-ghost use Prim.Native.Nat.{_*_, _≤_};
+ghost use Prim.Native.Nat.{_≤_};
 ghost use lib.ListN.{length, take};
 ghost use Rattle.moments.specs.Moments.{was, left};
 ghost use Rattle.lent.specs.Lent.{given};
-ghost use Rattle.output.specs.Printed.{Puts};
-ghost use Rattle.summer.specs.Summing.{sumLine, sumLines, PutsTotal, sumsRoom, SummerAnswer};
+ghost use Rattle.summer.specs.Summing.{PutsTotal, sumsRoom, SummerAnswer};
 
 // The room for an answer: for each rule a line of two numbers of up to 20 digits, and a line of up to 64 bytes before these.
 const ROOM: usize = 64 + 42 * Book::RULES;
@@ -78,29 +77,5 @@ fn total(
     if tallied.number() != 0 {
         return output::put_refusal(answer, at, tallied.number(), tallied.value());
     }
-    show(&sums, answer, at)
-}
-
-// Puts a line for each sum that is not 0.
-fn show(sums: &[u64], answer: &mut [u8], at: usize) -> usize
-    ensures { λ _. ⌜ length (sumLines 0 (was sums)) ≤ 42 * length (was sums) ⌝ }
-    ensures { λ r. ⌜ Puts (sumLines 0 (was sums)) (was answer) at (left answer) r ⌝ }
-{
-    let mut to = at;
-    let mut rule = 0;
-    while rule < sums.len() {
-        to = show_sum(rule as u64, sums[rule], answer, to);
-        rule += 1;
-    }
-    to
-}
-
-// Puts the rule and its sum, where that is not 0.
-fn show_sum(rule: u64, sum: u64, answer: &mut [u8], at: usize) -> usize
-    ensures { λ r. ⌜ Puts (sumLine rule sum) (was answer) at (left answer) r ⌝ }
-{
-    if sum == 0 {
-        return at;
-    }
-    output::put_pair(answer, at, b"", rule, b" ", sum)
+    shown::put_sums(answer, at, &sums)
 }

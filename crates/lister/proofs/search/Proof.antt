@@ -1,11 +1,11 @@
 -- `search` meets its contract: the lines shown are those of the walk's reports, and the line of a refusal is that of its answer. Assumes nothing.
 use Prim.Native.Nat.{ℕ}
+use native.Mathlib.Nat.{sub-zero}
 use native.Mathlib.Omega.{arith}
 use borrow.Author.Needs.{needs}
 use lib.ListN.{replicate, length-replicate}
 use Rattle.lent.specs.Lent.{five}
-use Rattle.walk.proofs.Room.{accepted-within}
-use Rattle.lister.proofs.Laws.{search-shown, search-refused}
+use Rattle.lister.proofs.Laws.{made-within, search-shown, search-refused}
 use Rattle.lister.proofs.search.Statement.{statement}
 use Rattle.lister.proofs.search.Tie as tie
 
@@ -18,25 +18,32 @@ walk-requires c κs = search needs
 enum-known-walked : tie.Need-enum-known-walked
 enum-known-walked c = search needs
 
-slice-aggregate-show : tie.Need-slice-aggregate-show
-slice-aggregate-show c = search needs
+mul-put-walk : tie.Need-mul-put-walk
+mul-put-walk c =
+    let k = c .before .before in
+    let w = k .before .before .before in
+    let a = w .before .before .before .before .before .before .before .before .before .args in
+    let kept = w .walk .kept .1 .1 .1 .1 .1 .1 .1 .0 in
+    let few = made-within (five (a .goto .now) (a .fall .now) (a .held .now) (a .live .now) (a .out .now)) (a .rows) (a .text .now) kept (w .walk .ensures .0) (k .walked .given .1) in
+    omega (arith, few, kept)
 
-show-requires : tie.Need-show-requires
-show-requires c κs =
+sub-put-walk : tie.Need-sub-put-walk
+sub-put-walk c = search needs
+
+part-put-walk-start : tie.Need-part-put-walk-start
+part-put-walk-start c = search needs
+
+part-put-walk-end : tie.Need-part-put-walk-end
+part-put-walk-end c =
     let k = c .before .before .before in
     let w = k .before .before .before in
     let a = w .before .before .before .before .before .before .before .before .before .args in
-    accepted-within
-    (a .goto .now)
-    (a .fall .now)
-    (a .held .now)
-    (a .live .now)
-    (a .out .now)
-    (a .text .now)
-    (a .rows)
-    (w .walk .kept .1 .1 .1 .1 .1 .1 .1 .0)
-    (w .walk .ensures .0)
-    (k .walked .given .1)
+    let kept = w .walk .kept .1 .1 .1 .1 .1 .1 .1 .0 in
+    let few = made-within (five (a .goto .now) (a .fall .now) (a .held .now) (a .live .now) (a .out .now)) (a .rows) (a .text .now) kept (w .walk .ensures .0) (k .walked .given .1) in
+    omega (arith, few, kept)
+
+put-walk-requires : tie.Need-put-walk-requires
+put-walk-requires c κs = search needs
 
 number-requires : tie.Need-number-requires
 number-requires c κs = search needs
@@ -53,21 +60,22 @@ same-length c = search needs
 returns : tie.Need-returns
 returns c =
     let s = c .before .before in
-    let k = s .before .before .before .before in
+    let k = s .before .before .before .before .before in
     let w = k .before .before .before in
     let a = w .before .before .before .before .before .before .before .before .before .args in
     search-shown
     (five (a .goto .now) (a .fall .now) (a .held .now) (a .live .now) (a .out .now))
     (a .rows)
     (a .text .now)
-    _
-    _
+    (replicate 16384 0)
+    (w .walk .last .1 .1 .1 .1 .1 .1 .1 .0)
     (length-replicate {A = ℕ} 16384 0)
     (w .walk .ensures .0)
     (k .walked .given .1)
     (w .walk .ensures .1)
-    (s .show .ensures .0)
-    (s .show .ensures .1)
+    (sub-zero _)
+    (s .put-walk .ensures .0)
+    (s .put-walk .ensures .1)
 
 same-length-2 : tie.Need-same-length-2
 same-length-2 c = search needs
@@ -100,8 +108,11 @@ search-spec =
     slice-aggregate-walk
     walk-requires
     enum-known-walked
-    slice-aggregate-show
-    show-requires
+    mul-put-walk
+    sub-put-walk
+    part-put-walk-start
+    part-put-walk-end
+    put-walk-requires
     number-requires
     value-requires
     put-refusal-requires

@@ -1,10 +1,8 @@
 -- `put_answer` meets its contract: what is put are the lines of what the build and the tally came to, and they have room. Assumes nothing.
 use native.Mathlib.Omega.{arith}
 use borrow.Author.Needs.{needs}
-use Rattle.output.proofs.Room.{whole-refused, whole-accepted}
 use Rattle.lent.specs.Lent.{five}
-use Rattle.promised.specs.Promise.{numberOf, valueOf}
-use Rattle.summer.specs.Summing.{totalLines}
+use Rattle.summer.proofs.Laws.{answer-refused, answer-accepted}
 use Rattle.summer.proofs.put_answer.Statement.{statement}
 use Rattle.summer.proofs.put_answer.Tie as tie
 
@@ -48,13 +46,19 @@ returns c =
     let i = v .before in
     let b = i .before .before .before .before .before .before .before in
     let a = b .before .before .before .before .before .before .before .before .before in
-    let x = b .build .result in
     let t = b .build .last in
-    let tables = five (t .1 .0) (t .1 .1 .0) (t .1 .1 .1 .0) (t .1 .1 .1 .1 .0) (t .1 .1 .1 .1 .1 .0) in
-    let more = totalLines tables (valueOf x) (a .args .profile .now) in
-    let put = rw (i .number .ensures, v .value .ensures) at (p .put-built .ensures) in
-    let (end, lines) = whole-refused (numberOf x) (valueOf x) more (omega (arith, a .pre)) (λ q. omega (arith, q, c .before .number2 .ensures)) (omega (arith, i .number .ensures)) (omega (arith, v .value .ensures)) put in
-    (end, record { built = x; tables = tables; kept = b .build .ensures; lines = lines })
+    answer-refused
+    (five (t .1 .0) (t .1 .1 .0) (t .1 .1 .1 .0) (t .1 .1 .1 .1 .0) (t .1 .1 .1 .1 .1 .0))
+    (b .build .result)
+    (b .build .ensures)
+    (a .pre)
+    (i .number .ensures)
+    (v .value .ensures)
+    (omega arith)
+    (omega arith)
+    (p .put-built .ensures)
+    (c .before .number2 .ensures)
+    (λ q. omega (arith, q))
 
 slice-aggregate-total : tie.Need-slice-aggregate-total
 slice-aggregate-total c = search needs
@@ -91,15 +95,20 @@ returns-2 c =
     let i = v .before in
     let b = i .before .before .before .before .before .before .before in
     let a = b .before .before .before .before .before .before .before .before .before in
-    let x = b .build .result in
     let t = b .build .last in
-    let tables = five (t .1 .0) (t .1 .1 .0) (t .1 .1 .1 .0) (t .1 .1 .1 .1 .0) (t .1 .1 .1 .1 .1 .0) in
-    let more = totalLines tables (valueOf x) (a .args .profile .now) in
-    let put = rw (i .number .ensures, v .value .ensures) at (p .put-built .ensures) in
-    let short = rw (w .value2 .ensures) at (s .total .ensures .0) in
-    let next = rw (w .value2 .ensures) at (s .total .ensures .1) in
-    let (end, lines) = whole-accepted (numberOf x) (valueOf x) more (omega (arith, a .pre, short)) (omega (arith, n .number2 .ensures, e .if1 .left)) (omega (arith, v .value .ensures)) put next in
-    (end, record { built = x; tables = tables; kept = b .build .ensures; lines = lines })
+    answer-accepted
+    (five (t .1 .0) (t .1 .1 .0) (t .1 .1 .1 .0) (t .1 .1 .1 .1 .0) (t .1 .1 .1 .1 .1 .0))
+    (b .build .result)
+    (b .build .ensures)
+    (a .pre)
+    (i .number .ensures)
+    (v .value .ensures)
+    (omega (arith, v .value .ensures))
+    (p .put-built .ensures)
+    (n .number2 .ensures)
+    (omega (arith, e .if1 .left))
+    (w .value2 .ensures)
+    (s .total .ensures)
 
 pub put-answer-spec : {M : Type 1} → statement M
 put-answer-spec =

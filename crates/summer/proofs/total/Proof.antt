@@ -50,11 +50,11 @@ returns c =
     (omega (arith, v .value .ensures))
     (rw (i .number2 .ensures, v .value .ensures) at (s .put-refusal .ensures))
 
-slice-aggregate-show : tie.Need-slice-aggregate-show
-slice-aggregate-show c = search needs
+slice-aggregate-put-sums : tie.Need-slice-aggregate-put-sums
+slice-aggregate-put-sums c = search needs
 
-show-requires : tie.Need-show-requires
-show-requires c κs = search needs
+put-sums-requires : tie.Need-put-sums-requires
+put-sums-requires c κs = search needs
 
 same-length-2 : tie.Need-same-length-2
 same-length-2 c = search needs
@@ -77,8 +77,8 @@ returns-2 c =
     (omega (arith, n .number .ensures, e .if1 .left))
     (t .tally .ensures .1)
     (t .tally .kept .1 .1 .1 .1 .1 .1 .1 .0 ∙ length-replicate {A = ℕ} 256 0)
-    (s .show .ensures .0)
-    (s .show .ensures .1)
+    (s .put-sums .ensures .0)
+    (s .put-sums .ensures .1)
 
 pub total-spec : {M : Type 1} → statement M
 total-spec =
@@ -92,7 +92,7 @@ total-spec =
     put-refusal-requires
     same-length
     returns
-    slice-aggregate-show
-    show-requires
+    slice-aggregate-put-sums
+    put-sums-requires
     same-length-2
     returns-2)

@@ -1,13 +1,13 @@
--- `show` meets its contract: the last line is put behind those of the reports. Assumes nothing.
+-- `put_walk` meets its contract: the last line is put behind those of the reports. Assumes nothing.
 use native.Mathlib.Omega.{arith}
 use borrow.Author.Needs.{needs}
 use Rattle.output.proofs.Laws.{puts-append}
-use Rattle.lister.proofs.Laws.{shown-length}
-use Rattle.lister.proofs.show.Statement.{statement}
-use Rattle.lister.proofs.show.Tie as tie
+use Rattle.shown.proofs.Laws.{shown-length}
+use Rattle.shown.proofs.put_walk.Statement.{statement}
+use Rattle.shown.proofs.put_walk.Tie as tie
 
-show-reports-requires : tie.Need-show-reports-requires
-show-reports-requires c κs = search needs
+put-reports-requires : tie.Need-put-reports-requires
+put-reports-requires c κs = search needs
 
 slice-aggregate-put-pair : tie.Need-slice-aggregate-put-pair
 slice-aggregate-put-pair c = search needs
@@ -25,17 +25,17 @@ returns : tie.Need-returns
 returns c =
     let last = c .before .before in
     let r = last .before .before .before .before .before .before in
-    let k = r .before .before .before in
-    let a = k .before .args in (
-      shown-length (a .reports .now) (a .made) (a .falls) (a .held) (omega arith) (λ i. k .shared-slice-known .given i .fits) (omega arith) (omega arith),
-      puts-append (r .show-reports .ensures .1) (last .put-pair .ensures),
+    let k = r .before .before in
+    let a = k .before .before .args in (
+      shown-length (a .reports .now) (a .falls) (a .held) (λ i. k .shared-slice-known .given i .fits) (omega arith) (omega arith),
+      puts-append (r .put-reports .ensures) (last .put-pair .ensures),
     )
 
-pub show-spec : {M : Type 1} → statement M
-show-spec =
+pub put-walk-spec : {M : Type 1} → statement M
+put-walk-spec =
     tie.close
     (tie.spec
-    show-reports-requires
+    put-reports-requires
     slice-aggregate-put-pair
     slice-aggregate-put-pair-2
     put-pair-requires

@@ -1,10 +1,10 @@
--- `show_sum` meets its contract: a sum of 0 has no line. Assumes nothing.
+-- `put_sum` meets its contract: a sum of 0 has no line. Assumes nothing.
 use native.Mathlib.Omega.{arith}
 use borrow.Author.Needs.{needs}
 use borrow.Author.Tests.{eq-eqb, ne-eqb}
 use Rattle.output.proofs.Laws.{puts-none}
-use Rattle.summer.proofs.show_sum.Statement.{statement}
-use Rattle.summer.proofs.show_sum.Tie as tie
+use Rattle.shown.proofs.put_sum.Statement.{statement}
+use Rattle.shown.proofs.put_sum.Tie as tie
 
 returns : tie.Need-returns
 returns c = rw (eq-eqb (c .before .before .args .sum) 0 (omega arith)) puts-none
@@ -26,8 +26,8 @@ returns-2 c =
     let p = c .before .before in
     rw (ne-eqb (p .before .before .before .before .before .before .args .sum) 0 (omega arith)) (p .put-pair .ensures)
 
-pub show-sum-spec : {M : Type 1} → statement M
-show-sum-spec =
+pub put-sum-spec : {M : Type 1} → statement M
+put-sum-spec =
     tie.close
     (tie.spec
     returns

@@ -1,0 +1,2 @@
+-- The laws of `shown`. Assumes nothing.
+pub mod Laws

@@ -1,0 +1,2 @@
+-- The definitions of `shown`. Assumes nothing.
+pub mod Shown

@@ -23,10 +23,12 @@ use Rattle.walk.specs.declared.Counted.the-variants.{Read, Stopped}
 use Rattle.answers.specs.declared.Walked.{Walked}
 use Rattle.answers.specs.declared.Walked.the-variants.{Accepted, TooLong, BadRows, Damaged, NoRoom}
 use Rattle.answers.specs.Walked.{numberOf}
-use Rattle.walk.specs.Walk.{Lent, runOf, reportsOf, answerOf, written, bufferOf}
+use Rattle.one_byte.specs.Move.{Lent}
+use Rattle.walk.specs.Walk.{runOf, reportsOf, answerOf, written, bufferOf}
 use Rattle.listed.specs.Demands.{WalkCall, walkAnswer, reportsAfter, WalkAnswers, WalkRefusals, WalkRefuses, Moves, OverTables, Demand2, Demand3, Matches}
 use Rattle.lent.proofs.HasRows.{rows-lent, no-rows, few-lent}
-use Rattle.walk.proofs.Laws.{long-enough, counted, walked}
+use Rattle.one_byte.proofs.Laws.{long-enough}
+use Rattle.walk.proofs.Laws.{counted, walked}
 use Rattle.meaning.proofs.Lists.{lists-append}
 use Rattle.meaning.proofs.Occurrences.{occurrences, All, all-occurrences}
 use Rattle.listed.proofs.Longest.{held-longest}

@@ -7,11 +7,12 @@ use lib.ListN.{length}
 use Rattle.sets.specs.Table.{rulesAt}
 use Rattle.sets.proofs.Members.{members-le}
 use Rattle.book.specs.Limits.{mostRules}
-use Rattle.walk.specs.Walk.{moveFrom, onMove, reported, runFrom, runOf}
+use Rattle.one_byte.specs.Move.{moveFrom, onMove}
+use Rattle.walk.specs.Walk.{reported, runFrom, runOf}
 use Rattle.walk.specs.declared.Counted.{Counted}
 use Rattle.walk.specs.declared.Counted.the-variants.{Read, Stopped}
-use Rattle.walk.specs.declared.Moved.{Moved}
-use Rattle.walk.specs.declared.Moved.the-variants.{Reached, Lost}
+use Rattle.one_byte.specs.declared.Moved.{Moved}
+use Rattle.one_byte.specs.declared.Moved.the-variants.{Reached, Lost}
 use Rattle.listed.specs.Demands.{FewReports}
 
 reported-le : (out : List ℕ) (row : ℕ) → length (reported out row) ≤ mostRules

@@ -17,9 +17,10 @@ use Rattle.meaning.proofs.Looks.{ahead, behind, look, tables-linked, row-out}
 use Rattle.meaning.proofs.Shorter.{shorter}
 use Rattle.book.specs.Limits.{mostRules}
 use Rattle.walk.specs.declared.Counted.the-variants.{Read}
-use Rattle.walk.specs.declared.Moved.the-variants.{Reached}
-use Rattle.walk.specs.Walk.{moveFrom, reported, runFrom, reportsFrom}
-use Rattle.walk.proofs.Laws.{first-go, first-fall}
+use Rattle.one_byte.specs.declared.Moved.the-variants.{Reached}
+use Rattle.one_byte.specs.Move.{moveFrom}
+use Rattle.walk.specs.Walk.{reported, runFrom, reportsFrom}
+use Rattle.one_byte.proofs.Laws.{first-go, first-fall}
 use Rattle.meaning.proofs.Occurrences.{occurrencesFrom}
 
 module _ {r : Rules} {b : Five} {n : ℕ} (tables : Tables r b n) (rows : n ≤ noEntry) where

@@ -8,9 +8,10 @@ use lib.ListN.{length}
 use Rattle.sets.specs.Sums.{sumOver}
 use Rattle.sets.proofs.Sums.{sum-append}
 use Rattle.walk.specs.declared.Counted.the-variants.{Read, Stopped}
-use Rattle.walk.specs.declared.Moved.{Moved}
-use Rattle.walk.specs.declared.Moved.the-variants.{Reached, Lost}
-use Rattle.walk.specs.Walk.{Looked, Go, Fall, Wrong, lookAt, onLook, moveIn, moveFrom, onMove, reported, runFrom}
+use Rattle.one_byte.specs.declared.Moved.{Moved}
+use Rattle.one_byte.specs.declared.Moved.the-variants.{Reached, Lost}
+use Rattle.one_byte.specs.Move.{Looked, Go, Fall, Wrong, lookAt, onLook, moveIn, moveFrom, onMove}
+use Rattle.walk.specs.Walk.{reported, runFrom}
 use Rattle.listed.specs.Looks.{afterLook, looksIn, looksFrom, going, goings}
 
 module _ (goto fall out : List ℕ) (n : ℕ) where

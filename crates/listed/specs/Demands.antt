@@ -16,10 +16,11 @@ use Rattle.meaning.specs.Tables.{Five, Tables}
 use Rattle.book.specs.Limits.{mostRules, mostBytes}
 use Rattle.lent.specs.Lent.{lent}
 use Rattle.walk.specs.declared.Counted.the-variants.{Read}
-use Rattle.walk.specs.declared.Moved.the-variants.{Reached}
+use Rattle.one_byte.specs.declared.Moved.the-variants.{Reached}
 use Rattle.answers.specs.declared.Walked.{Walked}
 use Rattle.answers.specs.Walked.{numberOf, valuesOf}
-use Rattle.walk.specs.Walk.{moveOf, runOf, reportsOf, walkOf, bufferOf}
+use Rattle.one_byte.specs.Move.{moveOf}
+use Rattle.walk.specs.Walk.{runOf, reportsOf, walkOf, bufferOf}
 use Rattle.listed.specs.Looks.{looksFrom, goings}
 
 -- ---- a call of the walk

@@ -2,7 +2,7 @@
 use mathlib.Core.List.{List, [], _∷_, _++_}
 use Prim.Native.Nat.{ℕ, zero, suc, _+_}
 use Rattle.sets.specs.Sums.{sumOver}
-use Rattle.walk.specs.Walk.{Looked, Go, Fall, Wrong, lookAt, moveFrom, onMove}
+use Rattle.one_byte.specs.Move.{Looked, Go, Fall, Wrong, lookAt, moveFrom, onMove}
 
 -- the looks after one, where it falls
 abbrev pub afterLook : Looked → (ℕ → List Looked) → List Looked

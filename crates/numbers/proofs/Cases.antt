@@ -11,7 +11,8 @@ use Rattle.meaning.specs.Standing.{level, opens, largest, held, ends, out}
 use Rattle.meaning.specs.Falls.{longest, nextLongest, fitsWith, fallsFrom, falls, fallsIn}
 use Rattle.meaning.proofs.Tested.{below}
 use Rattle.book.specs.Content.{member, table}
-use Rattle.walk.specs.Walk.{lookAt, moveIn, moveFrom, reported, runFrom, reportsFrom, written}
+use Rattle.one_byte.specs.Move.{lookAt, moveIn, moveFrom}
+use Rattle.walk.specs.Walk.{reported, runFrom, reportsFrom, written}
 use Rattle.meaning.proofs.Occurrences.{occurrencesFrom}
 use Rattle.lines.specs.Lines.{split, linesOf, lastFrom, numberFrom, countOf, lineOf}
 use Rattle.lines.specs.Written.{startOf}

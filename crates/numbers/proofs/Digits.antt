@@ -14,7 +14,8 @@ use Rattle.book.specs.Content.{Content, member, table}
 use Rattle.book.specs.Grown.{symbolsOf}
 use Rattle.format.specs.Format.{meaningOf, fields, follow, ended, fieldAt, fieldOf, headAt, pictureField, judgePicture, ascendingBody, rises, ruleField, outcome, judgeRule, judgeSymbol, firstOf, judgeSymbols}
 use Rattle.book.specs.Meant.{rulesOf}
-use Rattle.walk.specs.Walk.{lookAt, moveIn, moveFrom, reported, runFrom, reportsFrom, written}
+use Rattle.one_byte.specs.Move.{lookAt, moveIn, moveFrom}
+use Rattle.walk.specs.Walk.{reported, runFrom, reportsFrom, written}
 use Rattle.meaning.proofs.Occurrences.{occurrencesFrom}
 use Rattle.numbers.specs.Cases.{All, none, also}
 use Rattle.numbers.specs.Digits.{decimalDigits, hexadecimalDigits, bytesD, digits}

@@ -21,7 +21,7 @@ use Rattle.meaning.specs.Tables.{Five, Tables}
 use Rattle.meaning.proofs.Looks.{row-first}
 use Rattle.book.specs.Limits.{mostRules}
 use Rattle.lent.specs.Lent.{lent}
-use Rattle.walk.specs.declared.Moved.{Moved}
+use Rattle.one_byte.specs.declared.Moved.{Moved}
 use Rattle.listed.proofs.Demands.{moves}
 use Rattle.lines.specs.declared.Line.{Line}
 use Rattle.lines.specs.declared.Line.the-variants.{Sound, Broken}

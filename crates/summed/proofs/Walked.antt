@@ -17,14 +17,16 @@ use Rattle.book.specs.Limits.{mostRules, mostBytes}
 use Rattle.lent.specs.Lent.{lent}
 use Rattle.walk.specs.declared.Counted.{Counted}
 use Rattle.walk.specs.declared.Counted.the-variants.{Read, Stopped}
-use Rattle.walk.specs.declared.Moved.{Moved}
-use Rattle.walk.specs.declared.Moved.the-variants.{Reached, Lost}
+use Rattle.one_byte.specs.declared.Moved.{Moved}
+use Rattle.one_byte.specs.declared.Moved.the-variants.{Reached, Lost}
 use Rattle.answers.specs.declared.Walked.{Walked}
 use Rattle.answers.specs.declared.Walked.the-variants.{Accepted, TooLong, BadRows, Damaged, NoRoom}
 use Rattle.answers.specs.Walked.{numberOf, valueOf}
-use Rattle.walk.specs.Walk.{Lent, moveFrom, onMove, reported, runFrom, runOf, reportsFrom, answerOf, walkOf}
+use Rattle.one_byte.specs.Move.{Lent, moveFrom, onMove}
+use Rattle.walk.specs.Walk.{reported, runFrom, runOf, reportsFrom, answerOf, walkOf}
 use Rattle.lent.proofs.HasRows.{rows-lent}
-use Rattle.walk.proofs.Laws.{Within, move-within, long-enough, walked}
+use Rattle.one_byte.proofs.Laws.{Within, move-within, long-enough}
+use Rattle.walk.proofs.Laws.{walked}
 use Rattle.lines.specs.declared.Pass.{Pass}
 use Rattle.lines.specs.declared.Pass.the-variants.{Through, Ends}
 use Rattle.tally.specs.Tally.{afterMove, passFrom, rulesFrom, framePass, frameRules, moveBy}

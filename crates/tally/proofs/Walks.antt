@@ -11,7 +11,7 @@ use lib.Seq.{drop-cons}
 use Rattle.sets.specs.Sets.{members}
 use Rattle.sets.proofs.Members.{members-empty, members-le}
 use Rattle.book.specs.Limits.{mostRules}
-use Rattle.walk.specs.declared.Moved.{Moved}
+use Rattle.one_byte.specs.declared.Moved.{Moved}
 use Rattle.lines.specs.declared.Line.{Line}
 use Rattle.lines.specs.declared.Line.the-variants.{Sound, Broken}
 use Rattle.lines.specs.declared.Pass.the-variants.{Through, Ends}

@@ -12,10 +12,11 @@ use Rattle.moments.specs.Moments.{was}
 use Rattle.sets.specs.Sets.{members}
 use Rattle.meaning.specs.Tables.{Five}
 use Rattle.book.specs.Limits.{mostRules, mostBytes}
-use Rattle.walk.specs.declared.Moved.{Moved}
-use Rattle.walk.specs.declared.Moved.the-variants.{Reached, Lost}
+use Rattle.one_byte.specs.declared.Moved.{Moved}
+use Rattle.one_byte.specs.declared.Moved.the-variants.{Reached, Lost}
 use Rattle.lent.specs.Lent.{hasRows}
-use Rattle.walk.specs.Walk.{moveOf, written}
+use Rattle.one_byte.specs.Move.{moveOf}
+use Rattle.walk.specs.Walk.{written}
 use Rattle.lines.specs.declared.Pass.{Pass}
 use Rattle.lines.specs.declared.Pass.the-variants.{Through, Ends}
 use Rattle.answers.specs.declared.Tallied.{Tallied}

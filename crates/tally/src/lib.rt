@@ -64,17 +64,17 @@ fn walk_frame(
     let mut row = 0;
     let mut at = 0;
     while at < frame.len() {
-        match walk::move_on(goto, fall, n, row, frame[at]) {
-            walk::Moved::Reached {
+        match one_byte::move_on(goto, fall, n, row, frame[at]) {
+            one_byte::Moved::Reached {
                 row: next,
                 falls: _,
             } => {
-                let rules = walk::rules(out, next);
+                let rules = one_byte::rules(out, next);
                 words::unite(seen, &rules);
                 row = next;
                 at += 1;
             }
-            walk::Moved::Lost => return Pass::Ends { at: base + at },
+            one_byte::Moved::Lost => return Pass::Ends { at: base + at },
         }
     }
     Pass::Through

@@ -1,29 +1,20 @@
-// The walk over tables: one look, one byte's move, and the walk over a text.
+// The walk over tables: two passes over a text, of which the second writes the reports.
 
 use answers::Walked;
 use book::Book;
-use words::Set;
+use one_byte::Moved;
 use words::WORDS;
 ghost use mathlib.Core.Path.{_≡_};
 ghost use Prim.Native.Nat.{suc, _+_, _*_, _≤_, _<_};
 ghost use lib.ListN.{length, getD};
 ghost use lib.Seq.{sets as stored};
 ghost use Rattle.moments.specs.Moments.{was, left};
-ghost use Rattle.sets.specs.Sets.{setOf, reports as pairs};
-ghost use Rattle.sets.specs.Table.{rowWords, rulesAt};
+ghost use Rattle.sets.specs.Sets.{reports as pairs};
+ghost use Rattle.sets.specs.Table.{rowWords};
 ghost use Rattle.meaning.specs.Tables.{gotoAt};
 ghost use Rattle.book.specs.Limits.{mostRules};
 ghost use Rattle.lent.specs.Lent.{given};
-ghost use Rattle.walk.specs.Walk.{Lent, Walkable, unwritten, moveFrom, isShort, moveOf, reported, runOf, reportsOf, written, walkOf, bufferOf};
-
-// The entry that says: fall back.
-const NO_ENTRY: usize = 65535;
-
-// One byte's move: the row reached and the fallbacks on the way, or an entry that no build writes.
-pub enum Moved {
-    Reached { row: usize, falls: usize },
-    Lost,
-}
+ghost use Rattle.walk.specs.Walk.{Walkable, reported, runOf, reportsOf, written, walkOf, bufferOf};
 
 // The run over a text: the reports and the fallbacks that it makes and its last row, or the byte at which it stops.
 pub enum Counted {
@@ -52,34 +43,7 @@ fn fall_at(fall: &[u16], row: usize) -> usize
     wide(fall[row])
 }
 
-// Whether no build writes such an entry. No row is below row 0, so one test serves 65535 in row 0 and a fall that is not below its own row.
-fn is_unwritten(n: usize, row: usize, entry: usize, to: usize) -> bool
-    ensures { λ r. ⌜ r ≡ unwritten n row entry to ⌝ }
-{
-    if entry == NO_ENTRY {
-        return row <= to;
-    }
-    n <= entry
-}
-
-// The rules that a row reports; none where the table has no such row.
-pub fn rules(out: &[u64], row: usize) -> Set
-    ensures { λ r. ⌜ (setOf r ≡ rulesAt (was out) row) × (length r ≡ rowWords) ⌝ }
-{
-    let mut set = words::none();
-    if out.len() <= row {
-        return set;
-    }
-    let start = WORDS * row;
-    let mut i: usize = 0;
-    while i < WORDS {
-        set[i] = words::word(out, start + i);
-        i += 1;
-    }
-    set
-}
-
-// How many they are.
+// How many rules a row reports.
 fn many(out: &[u64], row: usize) -> usize
     requires { ⌜ rowWords * suc row ≤ length (now out) ⌝ }
     ensures { λ r. ⌜ (r ≡ length (reported (was out) row)) × (r ≤ mostRules) ⌝ }
@@ -92,53 +56,6 @@ fn many(out: &[u64], row: usize) -> usize
         i += 1;
     }
     all
-}
-
-// Looks until one is no fall.
-fn move_from(goto: &[u16], fall: &[u16], n: usize, from: usize, byte: u8) -> Moved
-    requires { ⌜ Lent (now goto) (now fall) n × (from < n) ⌝ }
-    ensures { λ r. ⌜ r ≡ moveFrom (was goto) (was fall) n from byte 0 ⌝ }
-{
-    let mut row = from;
-    let mut falls = 0;
-    loop {
-        let entry = entry_at(goto, row, byte);
-        if entry < n {
-            return Moved::Reached { row: entry, falls };
-        }
-        let to = fall_at(fall, row);
-        if is_unwritten(n, row, entry, to) {
-            return Moved::Lost;
-        }
-        row = to;
-        falls += 1;
-    }
-}
-
-// Whether a row is none of n rows, or no tables have so many, or these have fewer.
-fn is_short(goto: &[u16], fall: &[u16], n: usize, row: usize) -> bool
-    ensures { λ r. ⌜ r ≡ isShort (was goto) (was fall) n row ⌝ }
-{
-    if n <= row {
-        return true;
-    }
-    if Book::ROWS < n {
-        return true;
-    }
-    if goto.len() / 256 < n {
-        return true;
-    }
-    fall.len() < n
-}
-
-// One byte's move. Where the row is none of n rows, or the tables have fewer, it is lost too.
-pub fn move_on(goto: &[u16], fall: &[u16], n: usize, from: usize, byte: u8) -> Moved
-    ensures { λ r. ⌜ r ≡ moveOf (was goto) (was fall) n from byte ⌝ }
-{
-    if is_short(goto, fall, n, from) {
-        return Moved::Lost;
-    }
-    move_from(goto, fall, n, from, byte)
 }
 
 // The first pass, which writes nothing. The loop over falls is left by the outer label where a look finds what no build writes.
@@ -161,7 +78,7 @@ fn count(goto: &[u16], fall: &[u16], out: &[u64], n: usize, text: &[u8]) -> Coun
                 break 'falls;
             }
             let to = fall_at(fall, row);
-            if is_unwritten(n, row, entry, to) {
+            if one_byte::is_unwritten(n, row, entry, to) {
                 sound = false;
                 break 'bytes;
             }
@@ -213,7 +130,7 @@ fn write(
     let mut to = 0;
     let mut at = 0;
     while to < places {
-        match move_from(goto, fall, n, row, text[at]) {
+        match one_byte::move_on(goto, fall, n, row, text[at]) {
             Moved::Reached {
                 row: next,
                 falls: _,

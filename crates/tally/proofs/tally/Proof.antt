@@ -8,7 +8,7 @@ use lib.ListN.{length, replicate}
 use Rattle.sets.specs.Table.{rulesAt}
 use Rattle.book.specs.Limits.{mostRules}
 use Rattle.lent.specs.Lent.{five, hasRows}
-use Rattle.walk.specs.Walk.{moveOf}
+use Rattle.one_byte.specs.Move.{moveOf}
 use Rattle.lines.specs.declared.Pass.{Pass}
 use Rattle.lines.specs.declared.Pass.the-variants.{Through}
 use Rattle.answers.specs.declared.Tallied.the-variants.{Accepted}

@@ -11,9 +11,9 @@ use Rattle.sets.specs.Sets.{setOf}
 use Rattle.sets.specs.Table.{rowWords, rulesAt}
 use Rattle.sets.proofs.Laws.{union-assoc}
 use Rattle.sets.proofs.InWords.{length-united}
-use Rattle.walk.specs.declared.Moved.{Moved}
-use Rattle.walk.specs.declared.Moved.the-variants.{Lost}
-use Rattle.walk.specs.Walk.{moveOf}
+use Rattle.one_byte.specs.declared.Moved.{Moved}
+use Rattle.one_byte.specs.declared.Moved.the-variants.{Lost}
+use Rattle.one_byte.specs.Move.{moveOf}
 use Rattle.tally.specs.Tally.{passFrom, rulesFrom, framePass, frameRules}
 use Rattle.tally.proofs.Walks.{frame-end, frame-move, rules-end, rules-move}
 use Rattle.tally.proofs.walk_frame.Statement.{statement}

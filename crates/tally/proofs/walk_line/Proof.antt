@@ -10,7 +10,7 @@ use lib.Seq.{length-take-le}
 use Rattle.sets.specs.Sets.{members, setOf}
 use Rattle.sets.specs.Table.{rowWords}
 use Rattle.book.specs.Limits.{mostRules}
-use Rattle.walk.specs.Walk.{moveOf}
+use Rattle.one_byte.specs.Move.{moveOf}
 use Rattle.lines.specs.declared.Line.the-variants.{Sound}
 use Rattle.lines.specs.declared.Pass.{Pass}
 use Rattle.lines.specs.Lines.{mostCount, lineOf}

@@ -7,7 +7,7 @@ use borrow.Author.Needs.{needs}
 use lib.ListN.{length, drop}
 use Rattle.sets.specs.Table.{rulesAt}
 use Rattle.book.specs.Limits.{mostRules}
-use Rattle.walk.specs.Walk.{moveOf}
+use Rattle.one_byte.specs.Move.{moveOf}
 use Rattle.lines.specs.declared.Pass.{Pass}
 use Rattle.lines.specs.Lines.{linesOf, onPass, passOver}
 use Rattle.tally.specs.Tally.{linePass, sumsOver, linesPass, linesSums}

@@ -10,7 +10,7 @@ use lib.ListN.{length, drop}
 use Rattle.sets.specs.Sets.{setOf}
 use Rattle.sets.specs.Table.{rowWords, rulesAt}
 use Rattle.sets.proofs.Laws.{union-assoc}
-use Rattle.walk.specs.Walk.{moveOf}
+use Rattle.one_byte.specs.Move.{moveOf}
 use Rattle.lines.specs.declared.Pass.{Pass}
 use Rattle.lines.specs.Lines.{framesOf, onPass, passOver}
 use Rattle.tally.specs.Tally.{framePass, rulesOver, stackPass, stackRules}

@@ -9,9 +9,11 @@ use borrow.Author.Needs.{needs}
 use lib.ListN.{length, drop}
 use Rattle.meaning.specs.Tables.{noEntry}
 use Rattle.book.specs.Limits.{mostRules, mostRows}
-use Rattle.walk.specs.declared.Moved.the-variants.{Reached, Lost}
-use Rattle.walk.specs.Walk.{moveFrom, runFrom, runOf}
-use Rattle.walk.proofs.Laws.{falls-back, first-go, first-fall, first-wrong, run-end, run-move}
+use Rattle.one_byte.specs.declared.Moved.the-variants.{Reached, Lost}
+use Rattle.one_byte.specs.Move.{moveFrom}
+use Rattle.walk.specs.Walk.{runFrom, runOf}
+use Rattle.one_byte.proofs.Laws.{falls-back, first-go, first-fall, first-wrong}
+use Rattle.walk.proofs.Laws.{run-end, run-move}
 use Rattle.walk.proofs.count.Statement.{statement}
 use Rattle.walk.proofs.count.Tie as tie
 

@@ -5,13 +5,15 @@ use mathlib.Core.List.{_++_}
 use mathlib.Core.Path.{_≡_, refl, sym, _∙_}
 use native.Mathlib.Omega.{arith}
 use borrow.Author.Needs.{needs}
-use lib.ListN.{length, drop, length-append}
+use lib.ListN.{length, getD, drop, length-append}
 use lib.Seq.{sets as stored}
 use Rattle.sets.specs.Sets.{reports as pairs}
 use Rattle.sets.proofs.Members.{reports-length, sets-append}
-use Rattle.walk.specs.declared.Moved.the-variants.{Reached, Lost}
+use Rattle.one_byte.specs.declared.Moved.the-variants.{Reached, Lost}
 use Rattle.walk.specs.Walk.{reported, reportsFrom, reportsOf, written}
-use Rattle.walk.proofs.Laws.{moved, reports-move, reports-some, stored-all, stored-none}
+use Rattle.one_byte.specs.Move.{moveFrom}
+use Rattle.one_byte.proofs.Laws.{moved, move-lent}
+use Rattle.walk.proofs.Laws.{reports-move, reports-some, stored-all, stored-none}
 use Rattle.walk.proofs.write.Statement.{statement}
 use Rattle.walk.proofs.write.Tie as tie
 
@@ -31,9 +33,18 @@ left c =
     let i = l .inv .2 in
     reports-some (a .goto .now) (a .fall .now) (a .out .now) (a .n) (a .text .now) (l .at) (l .row) (omega (arith, c .loop-test .taken))
 
+-- the move is the byte's move
+on : (c : tie.After-move-on Inv-loop μ-loop) →
+    let a = c .before .before .before .before .before .before .before .before .before .args in
+    let l = c .before .before .before .loop in
+    c .move-on .result ≡ moveFrom (a .goto .now) (a .fall .now) (a .n) (l .row) (getD (a .text .now) (l .at) 0) 0
+on c =
+    let a = c .before .before .before .before .before .before .before .before .before in
+    c .move-on .ensures ∙ move-lent _ _ _ _ _ (a .pre .0 .lent) (c .before .before .before .loop .inv .0)
+
 -- the row that the move reaches
 row-next : (c : tie.After-next Inv-loop μ-loop) → c .next .given .0 .0 < c .before .before .before .before .before .before .before .before .before .before .before .args .n
-row-next c = moved _ _ _ _ _ 0 (c .before .before .move-from .ensures) (c .next .given .1) .0
+row-next c = moved _ _ _ _ _ 0 (on (c .before .before)) (c .next .given .1) .0
 
 -- and the byte's part in the reports
 more : (c : tie.After-next Inv-loop μ-loop) →
@@ -44,16 +55,16 @@ more : (c : tie.After-next Inv-loop μ-loop) →
     ≡ pairs (l .at + 1) (reported (a .out .now) to) ++ reportsFrom (a .goto .now) (a .fall .now) (a .out .now) (a .n) (l .at + 1) to (drop (l .at + 1) (a .text .now))
 more c =
     reports-move _ _ _ _ _ _ _ (Reached (c .next .given .0 .0) (c .next .given .0 .1 .0)) (left (c .before .before .before .before))
-    (moved _ _ _ _ _ 0 (c .before .before .move-from .ensures) (c .next .given .1) .1)
+    (moved _ _ _ _ _ 0 (on (c .before .before)) (c .next .given .1) .1)
 
 loop-holds : tie.Need-loop-holds Inv-loop μ-loop
 loop-holds c = let p = c .before .before .before .before .before .pre in (omega arith, refl, omega (arith, p .1), stored-all _ _ (omega (arith, p .1)))
 
-shared-slice-read-move-from : tie.Need-shared-slice-read-move-from Inv-loop μ-loop
-shared-slice-read-move-from c = left (c .before)
+shared-slice-read-move-on : tie.Need-shared-slice-read-move-on Inv-loop μ-loop
+shared-slice-read-move-on c = left (c .before)
 
-move-from-requires : tie.Need-move-from-requires Inv-loop μ-loop
-move-from-requires c κs = search needs
+move-on-requires : tie.Need-move-on-requires Inv-loop μ-loop
+move-on-requires c κs = search needs
 
 enum-known-next : tie.Need-enum-known-next Inv-loop μ-loop
 enum-known-next c = search needs
@@ -95,7 +106,7 @@ returns : tie.Need-returns Inv-loop μ-loop
 returns c =
     let a = c .before .before .before .before .before .before .before .before .before .before .before .args in
     let l = c .before .before .before .before .before .loop in
-    let m = moved _ _ _ _ _ 0 (c .before .before .move-from .ensures) (c .enum-told .given .1) in
+    let m = moved _ _ _ _ _ 0 (on (c .before .before)) (c .enum-told .given .1) in
     rw (reports-move _ _ (a .out .now) _ (a .text .now) (l .at) (l .row) Lost (left (c .before .before .before .before)) (m .1)) at (l .inv .3)
 
 same-length-2 : tie.Need-same-length-2 Inv-loop μ-loop
@@ -117,8 +128,8 @@ write-spec =
     Inv-loop
     μ-loop
     loop-holds
-    shared-slice-read-move-from
-    move-from-requires
+    shared-slice-read-move-on
+    move-on-requires
     enum-known-next
     add-at
     cast-report

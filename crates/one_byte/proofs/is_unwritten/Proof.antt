@@ -1,12 +1,12 @@
--- `walk::is_unwritten` meets its contract. Assumes nothing.
+-- `one_byte::is_unwritten` meets its contract. Assumes nothing.
 use Prim.Native.Nat.{ℕ, zero, suc, zero-le}
 use mathlib.Core.Bool.{_||_, false, or-false}
 use mathlib.Core.Path.{_≡_, sym}
 use native.Mathlib.Omega.{arith}
 use lib.Dec.{leb, eqb}
 use borrow.Author.Tests.{le-leb, eq-eqb, ne-eqb}
-use Rattle.walk.proofs.is_unwritten.Statement.{statement}
-use Rattle.walk.proofs.is_unwritten.Tie as tie
+use Rattle.one_byte.proofs.is_unwritten.Statement.{statement}
+use Rattle.one_byte.proofs.is_unwritten.Tie as tie
 
 -- no row is below row 0
 one-test : (row to : ℕ) → leb row to ≡ (eqb row 0 || leb row to || false)

@@ -1,4 +1,4 @@
--- `walk::rules` meets its contract: the words of the row, one after another. Assumes nothing.
+-- `one_byte::rules` meets its contract: the words of the row, one after another. Assumes nothing.
 use mathlib.Core.Path.{_≡_, sym, ap, subst, _∙_}
 use Prim.Native.Nat.{ℕ, _+_, _-_, _*_, _≤_}
 use native.Mathlib.Nat.{zero-add}
@@ -9,8 +9,8 @@ use Rattle.sets.specs.Sets.{setOf}
 use Rattle.sets.specs.Table.{rowWords, rulesAt}
 use Rattle.sets.proofs.Table.{rules-words, rules-none}
 use Rattle.sets.proofs.Writing.{Writing, writing-start, writing-next}
-use Rattle.walk.proofs.rules.Statement.{statement}
-use Rattle.walk.proofs.rules.Tie as tie
+use Rattle.one_byte.proofs.rules.Statement.{statement}
+use Rattle.one_byte.proofs.rules.Tie as tie
 
 abbrev Inv-loop : tie.InvT-loop
 Inv-loop out row set₀ start i₀ set i = (i ≤ rowWords) × Writing (λ j. getD out (rowWords * row + j) 0) (replicate rowWords 0) 0 i set

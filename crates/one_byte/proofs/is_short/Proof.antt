@@ -1,10 +1,10 @@
--- `walk::is_short` meets its contract. Assumes nothing.
+-- `one_byte::is_short` meets its contract. Assumes nothing.
 use Prim.Native.Nat.{_*_, _≤_, _<_}
 use native.Mathlib.Omega.{arith}
 use lib.ListN.{length}
 use borrow.Author.Tests.{le-leb, lt-leb, lt-ltb, le-ltb}
-use Rattle.walk.proofs.is_short.Statement.{statement}
-use Rattle.walk.proofs.is_short.Tie as tie
+use Rattle.one_byte.proofs.is_short.Statement.{statement}
+use Rattle.one_byte.proofs.is_short.Tie as tie
 
 returns : tie.Need-returns
 returns c = simp (le-leb _ _ (c .if1 .taken))

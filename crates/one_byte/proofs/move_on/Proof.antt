@@ -1,9 +1,9 @@
--- `walk::move_on` meets its contract. Assumes nothing.
+-- `one_byte::move_on` meets its contract. Assumes nothing.
 use mathlib.Core.Path.{sym, _∙_}
 use borrow.Author.Needs.{needs}
-use Rattle.walk.proofs.Laws.{not-short}
-use Rattle.walk.proofs.move_on.Statement.{statement}
-use Rattle.walk.proofs.move_on.Tie as tie
+use Rattle.one_byte.proofs.Laws.{not-short}
+use Rattle.one_byte.proofs.move_on.Statement.{statement}
+use Rattle.one_byte.proofs.move_on.Tie as tie
 
 is-short-requires : tie.Need-is-short-requires
 is-short-requires c κs = search needs

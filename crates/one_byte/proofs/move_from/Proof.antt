@@ -1,14 +1,14 @@
--- `walk::move_from` meets its contract: the move from here on is the byte's move, and the row falls. Assumes nothing.
+-- `one_byte::move_from` meets its contract: the move from here on is the byte's move, and the row falls. Assumes nothing.
 use Prim.Native.Nat.{_+_, _≤_, _<_}
 use mathlib.Core.Logic.{_≢_}
 use mathlib.Core.Path.{_≡_, sym, _∙_}
 use native.Mathlib.Omega.{arith}
 use borrow.Author.Needs.{needs}
 use Rattle.meaning.specs.Tables.{noEntry}
-use Rattle.walk.specs.Walk.{moveFrom}
-use Rattle.walk.proofs.Laws.{falls-back, first-go, first-fall, first-wrong}
-use Rattle.walk.proofs.move_from.Statement.{statement}
-use Rattle.walk.proofs.move_from.Tie as tie
+use Rattle.one_byte.specs.Move.{moveFrom}
+use Rattle.one_byte.proofs.Laws.{falls-back, first-go, first-fall, first-wrong}
+use Rattle.one_byte.proofs.move_from.Statement.{statement}
+use Rattle.one_byte.proofs.move_from.Tie as tie
 
 abbrev Inv-loop : tie.InvT-loop
 Inv-loop goto fall n from byte row₀ falls₀ row falls =

@@ -1,6 +1,6 @@
 -- `walk::count` meets its contract. Over bytes: the run from here on is the whole run; over falls: the move from here on is the byte's move.
 -- `sound` is true inside both loops, and false only where the label `bytes` is left from within. Assumes nothing.
-use Prim.Native.Nat.{ℕ, _+_, _-_, _*_, _≤_, _<_}
+use Prim.Native.Nat.{_+_, _-_, _*_, _≤_, _<_}
 use mathlib.Core.Bool.{true, true≢false}
 use mathlib.Core.Logic.{_≢_, ⊎-elim}
 use mathlib.Core.Path.{_≡_, sym, _∙_}

@@ -1,13 +1,26 @@
 -- `search` meets its contract: the lines shown are those of the walk's reports, and the line of a refusal is that of its answer. Assumes nothing.
-use Prim.Native.Nat.{ℕ}
+use Prim.Native.Nat.{ℕ, _*_, _≤_}
 use native.Mathlib.Nat.{sub-zero}
 use native.Mathlib.Omega.{arith}
 use borrow.Author.Needs.{needs}
-use lib.ListN.{replicate, length-replicate}
+use lib.ListN.{length, replicate, length-replicate}
 use Rattle.lent.specs.Lent.{five}
 use Rattle.lister.proofs.Laws.{made-within, search-shown, search-refused}
 use Rattle.lister.proofs.search.Statement.{statement}
 use Rattle.lister.proofs.search.Tie as tie
+
+-- the reports made are in their buffer
+few : (k : tie.After-walked) → 2 * k .walked .given .0 .0 ≤ length (k .before .before .before .walk .last .1 .1 .1 .1 .1 .1 .1 .0)
+few k =
+    let w = k .before .before .before in
+    let a = w .before .before .before .before .before .before .before .before .before .args in
+    made-within
+    (five (a .goto .now) (a .fall .now) (a .held .now) (a .live .now) (a .out .now))
+    (a .rows)
+    (a .text .now)
+    (w .walk .kept .1 .1 .1 .1 .1 .1 .1 .0)
+    (w .walk .ensures .0)
+    (k .walked .given .1)
 
 slice-aggregate-walk : tie.Need-slice-aggregate-walk
 slice-aggregate-walk c = search needs
@@ -19,13 +32,7 @@ enum-known-walked : tie.Need-enum-known-walked
 enum-known-walked c = search needs
 
 mul-put-walk : tie.Need-mul-put-walk
-mul-put-walk c =
-    let k = c .before .before in
-    let w = k .before .before .before in
-    let a = w .before .before .before .before .before .before .before .before .before .args in
-    let kept = w .walk .kept .1 .1 .1 .1 .1 .1 .1 .0 in
-    let few = made-within (five (a .goto .now) (a .fall .now) (a .held .now) (a .live .now) (a .out .now)) (a .rows) (a .text .now) kept (w .walk .ensures .0) (k .walked .given .1) in
-    omega (arith, few, kept)
+mul-put-walk c = let k = c .before .before in omega (arith, few k, k .before .before .before .walk .kept .1 .1 .1 .1 .1 .1 .1 .0)
 
 sub-put-walk : tie.Need-sub-put-walk
 sub-put-walk c = search needs
@@ -34,13 +41,7 @@ part-put-walk-start : tie.Need-part-put-walk-start
 part-put-walk-start c = search needs
 
 part-put-walk-end : tie.Need-part-put-walk-end
-part-put-walk-end c =
-    let k = c .before .before .before in
-    let w = k .before .before .before in
-    let a = w .before .before .before .before .before .before .before .before .before .args in
-    let kept = w .walk .kept .1 .1 .1 .1 .1 .1 .1 .0 in
-    let few = made-within (five (a .goto .now) (a .fall .now) (a .held .now) (a .live .now) (a .out .now)) (a .rows) (a .text .now) kept (w .walk .ensures .0) (k .walked .given .1) in
-    omega (arith, few, kept)
+part-put-walk-end c = omega (arith, few (c .before .before .before))
 
 put-walk-requires : tie.Need-put-walk-requires
 put-walk-requires c κs = search needs

@@ -27,7 +27,7 @@ use Rattle.one_byte.specs.Move.{Lent}
 use Rattle.walk.specs.Walk.{runOf, reportsOf, answerOf, written, bufferOf}
 use Rattle.listed.specs.Demands.{WalkCall, walkAnswer, reportsAfter, WalkAnswers, WalkRefusals, WalkRefuses, Moves, OverTables, Demand2, Demand3, Matches}
 use Rattle.lent.proofs.HasRows.{rows-lent, no-rows, few-lent}
-use Rattle.one_byte.proofs.Laws.{long-enough}
+use Rattle.one_byte.proofs.Laws.{move-lent}
 use Rattle.walk.proofs.Laws.{counted, walked}
 use Rattle.meaning.proofs.Lists.{lists-append}
 use Rattle.meaning.proofs.Occurrences.{occurrences, All, all-occurrences}
@@ -79,7 +79,7 @@ moves r b n tables lends t i c x byte =
     let few : n ≤ noEntry = omega arith in
     let enough : Lent (b .goto) (b .fall) n = record { few = omega arith; entries = omega arith; falls = omega arith } in
     let (e, m, y) = move tables few c x byte in
-    (e, rw (long-enough (b .goto) (b .fall) n i enough (at-below tables few x)) m, row-out tables {e = e} y, y)
+    (e, move-lent (b .goto) (b .fall) n i c enough (at-below tables few x) ∙ m, row-out tables {e = e} y, y)
 
 -- ---- the run
 

@@ -1,4 +1,4 @@
--- The lines of a search, how long they are, and the whole answer. Assumes nothing.
+-- The lines of a search, and how long they are. Assumes nothing.
 use mathlib.Core.Bool.{Bool, true, false, cond}
 use mathlib.Core.Logic.{inl, inr}
 use mathlib.Core.List.{List, [], _∷_}
@@ -10,13 +10,10 @@ use denote.Enum.Declared.{tagOf}
 use lib.Dec.{ltb}
 use lib.ListN.{length, getD, take, drop}
 use lib.Seq.{take-at}
-use Rattle.output.specs.Printed.{Puts, refusedLine, builtLine}
-use Rattle.output.proofs.Room.{refused-length, whole-refused, whole-accepted}
+use Rattle.output.specs.Printed.{Puts, refusedLine}
+use Rattle.output.proofs.Room.{refused-length}
 use Rattle.shown.specs.Shown.{shownLines}
-use Rattle.inputs.specs.Inputs.{lentTables}
 use Rattle.meaning.specs.Tables.{Five}
-use Rattle.promised.specs.declared.Built.{Built}
-use Rattle.promised.specs.Promise.{Promise, numberOf as builtNumber, valueOf as builtValue}
 use Rattle.lent.specs.Lent.{hasRows}
 use Rattle.walk.specs.declared.Counted.{Counted}
 use Rattle.walk.specs.declared.Counted.the-variants.{Read, Stopped}
@@ -29,7 +26,7 @@ use Rattle.lent.proofs.HasRows.{has-rows}
 use Rattle.walk.proofs.Laws.{Right, counted}
 use Rattle.walk.proofs.Room.{accepted-within}
 use Rattle.book.specs.Limits.{mostBytes}
-use Rattle.lister.specs.Listing.{walkedLines, searchLines, PutsSearch, listRoom, ListerAnswer}
+use Rattle.lister.specs.Listing.{walkedLines, searchLines, PutsSearch}
 
 -- ---- the reports of an accepted walk
 
@@ -103,21 +100,3 @@ module _ (b : Five) (n : ℕ) (text : List ℕ) where
       let reports = reportsOf (b .goto) (b .fall) (b .out) n text in
       let lines : refusedLine (numberOf r) (valueOf r) ≡ searchLines b n text = sym (not-shown r reports k) ∙ ap (λ w. walkedLines w reports) (p ∙ ap (walkOf b n text) size) in
       (omega (arith, ap length lines, refused-length (numberOf r) (valueOf r) i v), subst (λ ls. Puts ls l at l′ e) lines put)
-
--- ---- the whole answer
-
-module _ {book text : List ℕ} (b : Five) (x : Built) (kept : Promise book lentTables b x) where
-  -- of a build that is refused
-  pub answer-refused : {i v n r : ℕ} {l l′ : List ℕ} → listRoom ≤ length l → i ≡ builtNumber x → v ≡ builtValue x → i < 2 ^ 64 → v < 2 ^ 64 → Puts (builtLine i v) l 0 l′ r
-      → n ≡ builtNumber x → (n ≡ 0 → ⊥) → (r ≤ length l′) × ListerAnswer book text (take r l′)
-  answer-refused room p q i v put m refused =
-      let (end, lines) = whole-refused (builtNumber x) (builtValue x) (searchLines b (builtValue x) text) (omega arith) (λ z. refused (m ∙ z)) (omega arith) (omega arith) (rw (p, q) at put) in
-      (end, record { built = x; tables = b; kept = kept; lines = lines })
-
-  -- of one that is accepted
-  pub answer-accepted : {i v n w at r : ℕ} {l l₁ l′ : List ℕ} → listRoom ≤ length l → i ≡ builtNumber x → v ≡ builtValue x → v < 2 ^ 64 → Puts (builtLine i v) l 0 l₁ at
-      → n ≡ builtNumber x → n ≡ 0 → w ≡ builtValue x → PutsSearch b w text l₁ at l′ r → (r ≤ length l′) × ListerAnswer book text (take r l′)
-  answer-accepted room p q v put m accepted s (short, next) =
-      let fits = rw s at short in
-      let (end, lines) = whole-accepted (builtNumber x) (builtValue x) (searchLines b (builtValue x) text) (omega (arith, fits)) (sym m ∙ accepted) (omega arith) (rw (p, q) at put) (rw s at next) in
-      (end, record { built = x; tables = b; kept = kept; lines = lines })

@@ -25,17 +25,17 @@ Sound n row (Fall f) = f < row
 Sound n row Wrong = Unit {0}
 
 module _ (n row entry to : ℕ) where
-  pub look-go : entry ≢ noEntry → entry < n → lookOf n row entry to ≡ Go entry
+  look-go : entry ≢ noEntry → entry < n → lookOf n row entry to ≡ Go entry
   look-go ne h = rw (ne-eqb entry noEntry ne, lt-leb n entry h)
 
-  pub look-far : entry ≢ noEntry → n ≤ entry → lookOf n row entry to ≡ Wrong
+  look-far : entry ≢ noEntry → n ≤ entry → lookOf n row entry to ≡ Wrong
   look-far ne h = rw (ne-eqb entry noEntry ne, le-leb n entry h)
 
-  pub look-fall : entry ≡ noEntry → to < row → lookOf n row entry to ≡ Fall to
+  look-fall : entry ≡ noEntry → to < row → lookOf n row entry to ≡ Fall to
   look-fall q h = let ne : row ≢ 0 = omega arith in rw (eq-eqb entry noEntry q, ne-eqb row 0 ne, lt-leb row to h)
 
   -- row 0 too: no row is below it
-  pub look-stuck : entry ≡ noEntry → row ≤ to → lookOf n row entry to ≡ Wrong
+  look-stuck : entry ≡ noEntry → row ≤ to → lookOf n row entry to ≡ Wrong
   look-stuck q h = rw (eq-eqb entry noEntry q, le-leb row to h, or-true)
 
   -- an entry that a build may write, and that goes nowhere, says: fall back
@@ -146,7 +146,7 @@ module _ (goto fall : List ℕ) (n row : ℕ) where
       let (below, few) = or-none (leb n row) (ltb mostRows n) e2 in
       (record { few = ltb-false _ _ few; entries = ltb-false _ _ entries; falls = ltb-false _ _ falls }, leb-false _ _ below)
 
-  pub long-enough : Lent goto fall n → row < n → isShort goto fall n row ≡ false
+  long-enough : Lent goto fall n → row < n → isShort goto fall n row ≡ false
   long-enough x h =
       rw (lt-leb n row h, le-ltb mostRows n (x .few), le-ltb (length goto) (256 * n) (x .entries), le-ltb (length fall) n (x .falls))
 

@@ -52,19 +52,23 @@ whole {bytes} {before} {after} {r} p h =
     let e : after ≡ bytes ++ drop (0 + length bytes) before = p .filled ∙ sets-eq bytes before 0 (omega arith) in
     (omega (arith, end, ap length (p .filled), length-sets before 0 bytes), rw e (take-at bytes _ r (sym end)))
 
--- where there is room for a line of 64 bytes and those that come after it, the answer is whole: of a build that is refused,
-pub whole-refused : {l l′ : List ℕ} {r : ℕ} (number value : ℕ) (more : List ℕ) → 64 ≤ length l → (number ≡ 0 → ⊥) → number < 2 ^ 64 → value < 2 ^ 64
-    → Puts (builtLine number value) l 0 l′ r → (r ≤ length l′) × (take r l′ ≡ answerLines number value more)
-whole-refused number value more room refused n v put =
-    let alone : builtLine number value ≡ answerLines number value more =
-    sym (append-nil (builtLine number value)) ∙ ap (λ q. builtLine number value ++ cond q more []) (sym (ne-eqb number 0 refused)) in
-    let (end, lines) = whole put (omega (arith, built-length number value n v)) in
+-- The answer is whole where there is room for a line of 64 bytes and for those that come after it. i, v, n and w are what a program asks of its build,
+-- whose number and value they are. Of a build that is refused,
+pub whole-refused : {number value i v n r : ℕ} {l l′ : List ℕ} (more : ℕ → List ℕ) → 64 ≤ length l → i ≡ number → v ≡ value → i < 2 ^ 64 → v < 2 ^ 64
+    → Puts (builtLine i v) l 0 l′ r → n ≡ number → (n ≡ 0 → ⊥) → (r ≤ length l′) × (take r l′ ≡ answerLines number value (more value))
+whole-refused {number} {value} more room p q i v put m refused =
+    let alone : builtLine number value ≡ answerLines number value (more value) =
+    sym (append-nil (builtLine number value)) ∙ ap (λ b. builtLine number value ++ cond b (more value) []) (sym (ne-eqb number 0 (λ z. refused (m ∙ z)))) in
+    let (end, lines) = whole (rw (p, q) at put) (omega (arith, built-length number value (omega arith) (omega arith))) in
     (end, lines ∙ alone)
 
 -- and of one that is accepted
-pub whole-accepted : {l l₁ l′ : List ℕ} {at r : ℕ} (number value : ℕ) (more : List ℕ) → 64 + length more ≤ length l → number ≡ 0 → value < 2 ^ 64
-    → Puts (builtLine number value) l 0 l₁ at → Puts more l₁ at l′ r → (r ≤ length l′) × (take r l′ ≡ answerLines number value more)
-whole-accepted number value more room accepted v put next =
-    let both : builtLine number value ++ more ≡ answerLines number value more = ap (λ q. builtLine number value ++ cond q more []) (sym (eq-eqb number 0 accepted)) in
-    let (end, lines) = whole (puts-append put next) (rw length-append (omega (arith, built-length number value (omega arith) v))) in
+pub whole-accepted : {number value room i v n w at r : ℕ} {l l₁ l′ : List ℕ} (more : ℕ → List ℕ) → 64 + room ≤ length l → i ≡ number → v ≡ value → v < 2 ^ 64
+    → Puts (builtLine i v) l 0 l₁ at → n ≡ number → n ≡ 0 → w ≡ value → length (more w) ≤ room → Puts (more w) l₁ at l′ r
+    → (r ≤ length l′) × (take r l′ ≡ answerLines number value (more value))
+whole-accepted {number} {value} more space p q v put m accepted s short next =
+    let both : builtLine number value ++ more value ≡ answerLines number value (more value) =
+    ap (λ b. builtLine number value ++ cond b (more value) []) (sym (eq-eqb number 0 (sym m ∙ accepted))) in
+    let fits = rw s at short in
+    let (end, lines) = whole (puts-append (rw (p, q) at put) (rw s at next)) (rw length-append (omega (arith, fits, built-length number value (omega arith) (omega arith)))) in
     (end, lines ∙ both)

@@ -25,7 +25,7 @@ use Rattle.answers.specs.Walked.{numberOf, valueOf}
 use Rattle.one_byte.specs.Move.{Lent, moveFrom, onMove}
 use Rattle.walk.specs.Walk.{reported, runFrom, runOf, reportsFrom, answerOf, walkOf}
 use Rattle.lent.proofs.HasRows.{rows-lent}
-use Rattle.one_byte.proofs.Laws.{Within, move-within, long-enough}
+use Rattle.one_byte.proofs.Laws.{Within, move-within, move-lent}
 use Rattle.walk.proofs.Laws.{walked}
 use Rattle.lines.specs.declared.Pass.{Pass}
 use Rattle.lines.specs.declared.Pass.the-variants.{Through, Ends}
@@ -56,7 +56,7 @@ module _ (b : Five) (n : ℕ) (lends : n ≤ lent b) where
   move-is : (row c : ℕ) → row < n → moveBy b n row c ≡ moving row c
   move-is row c l =
       let enough : Lent (b .goto) (b .fall) n = record { few = omega arith; entries = omega arith; falls = omega arith } in
-      rw (long-enough (b .goto) (b .fall) n row enough l)
+      move-lent (b .goto) (b .fall) n row c enough l
 
   -- ---- a frame
 

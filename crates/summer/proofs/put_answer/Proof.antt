@@ -2,7 +2,8 @@
 use native.Mathlib.Omega.{arith}
 use borrow.Author.Needs.{needs}
 use Rattle.lent.specs.Lent.{five}
-use Rattle.summer.proofs.Laws.{answer-refused, answer-accepted}
+use Rattle.output.proofs.Room.{whole-refused, whole-accepted}
+use Rattle.summer.specs.Summing.{totalLines}
 use Rattle.summer.proofs.put_answer.Statement.{statement}
 use Rattle.summer.proofs.put_answer.Tie as tie
 
@@ -47,18 +48,19 @@ returns c =
     let b = i .before .before .before .before .before .before .before in
     let a = b .before .before .before .before .before .before .before .before .before in
     let t = b .build .last in
-    answer-refused
-    (five (t .1 .0) (t .1 .1 .0) (t .1 .1 .1 .0) (t .1 .1 .1 .1 .0) (t .1 .1 .1 .1 .1 .0))
-    (b .build .result)
-    (b .build .ensures)
-    (a .pre)
+    let tables = five (t .1 .0) (t .1 .1 .0) (t .1 .1 .1 .0) (t .1 .1 .1 .1 .0) (t .1 .1 .1 .1 .1 .0) in
+    let (end, lines) =
+    whole-refused
+    (λ rows. totalLines tables rows (a .args .profile .now))
+    (omega (arith, a .pre))
     (i .number .ensures)
     (v .value .ensures)
     (omega arith)
     (omega arith)
     (p .put-built .ensures)
     (c .before .number2 .ensures)
-    (λ q. omega (arith, q))
+    (λ q. omega (arith, q)) in
+    (end, record { built = b .build .result; tables = tables; kept = b .build .ensures; lines = lines })
 
 slice-aggregate-total : tie.Need-slice-aggregate-total
 slice-aggregate-total c = search needs
@@ -96,10 +98,10 @@ returns-2 c =
     let b = i .before .before .before .before .before .before .before in
     let a = b .before .before .before .before .before .before .before .before .before in
     let t = b .build .last in
-    answer-accepted
-    (five (t .1 .0) (t .1 .1 .0) (t .1 .1 .1 .0) (t .1 .1 .1 .1 .0) (t .1 .1 .1 .1 .1 .0))
-    (b .build .result)
-    (b .build .ensures)
+    let tables = five (t .1 .0) (t .1 .1 .0) (t .1 .1 .1 .0) (t .1 .1 .1 .1 .0) (t .1 .1 .1 .1 .1 .0) in
+    let (end, lines) =
+    whole-accepted
+    (λ rows. totalLines tables rows (a .args .profile .now))
     (a .pre)
     (i .number .ensures)
     (v .value .ensures)
@@ -108,7 +110,9 @@ returns-2 c =
     (n .number2 .ensures)
     (omega (arith, e .if1 .left))
     (w .value2 .ensures)
-    (s .total .ensures)
+    (s .total .ensures .0)
+    (s .total .ensures .1) in
+    (end, record { built = b .build .result; tables = tables; kept = b .build .ensures; lines = lines })
 
 pub put-answer-spec : {M : Type 1} → statement M
 put-answer-spec =

@@ -1,0 +1,96 @@
+-- The answer of `add` and the record beside it, refusal by refusal. Assumes nothing.
+use mathlib.Core.Bool.{Bool, true, false, cond}
+use mathlib.Core.List.{List}
+use mathlib.Core.Path.{_≡_, refl, sym, ap, ap₂, _∙_}
+use Prim.Native.Nat.{ℕ, _+_, _≤_, _<_}
+use native.Mathlib.Omega.{arith}
+use borrow.Author.Tests.{lt-ltb, le-ltb, le-leb, lt-leb}
+use lib.Dec.{ltb}
+use lib.ListN.{length}
+use Rattle.meaning.specs.Tables.{Five}
+use Rattle.book.specs.Limits.{mostRules, mostBytes}
+use Rattle.lent.specs.Lent.{hasRows}
+use Rattle.lines.specs.declared.Pass.{Pass}
+use Rattle.lines.specs.declared.Pass.the-variants.{Through, Ends}
+use Rattle.lines.specs.Lines.{checkOf}
+use Rattle.lines.specs.Profile.{counts}
+use Rattle.shares.specs.Below.{sumBelow}
+use Rattle.shares.specs.Shares.{allPlaces, limit, tabulate, amountAt, totalOf}
+use Rattle.shares.proofs.Below.{sum-same}
+use Rattle.shares.proofs.Tables.{length-table, getD-table, is-table}
+use Rattle.leaves.specs.declared.LeafTotals.{LeafTotals}
+use Rattle.leaves.specs.declared.Totalled.{Totalled}
+use Rattle.leaves.specs.declared.Totalled.the-variants.{Accepted, Full, TooLong, BadRows, BadLine, Damaged, Past}
+use Rattle.leaves.specs.declared.Handed.{Handed}
+use Rattle.leaves.specs.declared.Parts.{Parts}
+use Rattle.leaves.specs.Leaf.{unnamed}
+use Rattle.leaves.specs.Totals.{leavesPass, profileAdds, mostProfiles, totalAt, wholeIn, withParts, afterPass, addAnswer, recordAfter, addOf}
+use Rattle.leaves.specs.Steps.{CountedLines, grown, onParts, merged}
+use Rattle.leaves.proofs.EachPlace.{adds-to-counts}
+
+-- ---- parts that agree
+
+tabulate-same : (n : ℕ) (f g : ℕ → ℕ) → ((k : ℕ) → k < n → f k ≡ g k) → tabulate n f ≡ tabulate n g
+tabulate-same n f g e = is-table n g (tabulate n f) (length-table n f) (λ k h. getD-table n f k 0 h ∙ e k h)
+
+total-tabulate : (f : ℕ → ℕ) → totalOf (tabulate allPlaces f) ≡ sumBelow f allPlaces
+total-tabulate f = sum-same (amountAt (tabulate allPlaces f)) f allPlaces (λ p h. getD-table allPlaces f p 0 h)
+
+with-same : (t : LeafTotals) (f : ℕ → ℕ) → withParts t (amountAt (tabulate allPlaces f)) ≡ withParts t f
+unfolding withParts
+with-same t f =
+    let each : (k : ℕ) → k < allPlaces → amountAt (tabulate allPlaces f) k ≡ f k = λ k h. getD-table allPlaces f k 0 h in
+    let totals = tabulate-same mostRules (λ k. totalAt t k + amountAt (tabulate allPlaces f) k) (λ k. totalAt t k + f k) (λ k h. ap (λ x. totalAt t k + x) (each k (omega arith))) in
+    rw (totals, each unnamed (omega arith))
+
+-- ---- refusals
+
+module _ (b : Five) (n : ℕ) (profile : List ℕ) (t : LeafTotals) where
+  answered : {a : Totalled} → addAnswer b n profile t ≡ a → record { answer = a; back = recordAfter a t (λ p. profileAdds b n p profile) } ≡ addOf b n profile t
+  answered e = rw e
+
+  pub add-full : mostProfiles ≤ t .profiles → record { answer = Full; back = t } ≡ addOf b n profile t
+  unfolding addAnswer
+  add-full h = answered (rw (le-leb mostProfiles (t .profiles) h))
+
+  module _ (few : t .profiles < mostProfiles) where
+    pub add-long : mostBytes < length profile → record { answer = TooLong; back = t } ≡ addOf b n profile t
+    unfolding addAnswer
+    add-long h = answered (rw (lt-leb mostProfiles (t .profiles) few, lt-ltb mostBytes (length profile) h))
+
+    module _ (short : length profile ≤ mostBytes) where
+      pub add-rows : hasRows b n ≡ false → record { answer = BadRows n; back = t } ≡ addOf b n profile t
+      unfolding addAnswer
+      add-rows h = answered (rw (lt-leb mostProfiles (t .profiles) few, le-ltb mostBytes (length profile) short, h))
+
+      module _ (rows : hasRows b n ≡ true) {r : Pass} (p : r ≡ checkOf profile) where
+        begun : {q : Pass} → r ≡ q
+            → addAnswer b n profile t ≡ afterPass q (λ at. BadLine at) (afterPass (leavesPass b n profile) (λ at. Damaged at) (cond (ltb limit (wholeIn t + counts profile)) Past Accepted))
+        unfolding addAnswer
+        begun e = rw (lt-leb mostProfiles (t .profiles) few, le-ltb mostBytes (length profile) short, rows, sym p ∙ e)
+
+        pub add-line : {at : ℕ} → r ≡ Ends at → record { answer = BadLine at; back = t } ≡ addOf b n profile t
+        add-line e = answered (begun e)
+
+        -- what was counted, merged
+        pub add-counted : r ≡ Through → (c : Parts) → CountedLines b n profile c → {x : Handed} → x ≡ merged c t → x ≡ addOf b n profile t
+        unfolding merged
+        add-counted e c k m = m ∙ by (c .pass) refl
+          where
+            go : Pass → Totalled
+            go q = afterPass q (λ at. Damaged at) (cond (ltb limit (wholeIn t + counts profile)) Past Accepted)
+
+            pass-is : {q : Pass} → c .pass ≡ q → leavesPass b n profile ≡ q
+            pass-is z = sym (k .passes) ∙ z
+
+            parted : (past : Bool) → _≡_ {A = Handed} (cond past (record { answer = Past; back = t }) (record { answer = Accepted; back = withParts t (λ p. profileAdds b n p profile) }))
+                (record { answer = cond past Past Accepted; back = recordAfter (cond past Past Accepted) t (λ p. profileAdds b n p profile) })
+            parted true = refl
+            parted false = refl
+
+            by : (q : Pass) → c .pass ≡ q → onParts q (grown c t) t ≡ addOf b n profile t
+            by (Ends at) z = answered (begun e ∙ ap go (pass-is z))
+            by Through z =
+                let parts = k .parts-are z in
+                let whole = ap totalOf parts ∙ total-tabulate (λ p. profileAdds b n p profile) ∙ adds-to-counts b n profile (pass-is z) in
+                rw (whole, ap (λ l. withParts t (amountAt l)) parts ∙ with-same t (λ p. profileAdds b n p profile)) (parted (ltb limit (wholeIn t + counts profile)) ∙ answered (begun e ∙ ap go (pass-is z)))

@@ -1,0 +1,367 @@
+// Leaf totals per family: each line's last frame is walked, and the line's count goes to the lowest rule that fits the whole of it, or to unnamed.
+
+use book::Book;
+use lines::LF;
+use lines::Line;
+use lines::Pass;
+use lines::SEMICOLON;
+use shares::LIMIT;
+use shares::PLACES;
+use shares::Shares;
+use words::WORDS;
+ghost use mathlib.Core.Path.{_≡_};
+ghost use Prim.Native.Nat.{_≤_, _<_};
+ghost use lib.ListN.{length, getD};
+ghost use Rattle.moments.specs.Moments.{was};
+ghost use Rattle.sets.specs.Sets.{setOf};
+ghost use Rattle.book.specs.Limits.{mostBytes};
+ghost use Rattle.lent.specs.Lent.{given};
+ghost use Rattle.one_byte.specs.Move.{moveOf};
+ghost use Rattle.shares.specs.Shares.{amountAt};
+ghost use Rattle.leaves.specs.Leaf.{leafStart, endOf, lowestOf, familyAt, lineLeaf};
+ghost use Rattle.leaves.specs.Totals.{leavesPass, mostProfiles, totalsIn, emptyTotals, withParts, addOf, sharesIn, numberOf, valueOf};
+ghost use Rattle.leaves.specs.Steps.{CountedLines, Joins, merged};
+
+// The most profiles of a record.
+const PROFILES: usize = 1024;
+
+// Where the walk of a leaf ends: in a row, or at a byte whose move is lost.
+enum Ended {
+    InRow { row: usize },
+    AtByte { at: usize },
+}
+
+// What a line's leaf comes to: the line's count goes to a place, or the walk fails at a byte of the line.
+enum Leaf {
+    Counts { place: usize, count: u64 },
+    Fails { at: usize },
+}
+
+// The totals of 256 families and of unnamed, and how many profiles they are of.
+pub struct LeafTotals {
+    pub totals: [u64; Book::RULES],
+    pub unnamed: u64,
+    pub profiles: usize,
+}
+
+// The answer of `add`. `numberOf` and `valueOf` of specs/ give each case's number and value.
+pub enum Totalled {
+    Accepted,
+    Full,
+    TooLong,
+    BadRows { rows: usize },
+    BadLine { at: usize },
+    Damaged { at: usize },
+    Past,
+}
+
+// The answer beside the record.
+pub struct Handed {
+    pub answer: Totalled,
+    pub back: LeafTotals,
+}
+
+// The pass over a profile's leaves, and the counts of its lines at each place.
+struct Parts {
+    pass: Pass,
+    parts: [u64; PLACES],
+}
+
+impl LeafTotals {
+    // Nothing counted.
+    pub fn empty() -> LeafTotals
+        ensures { λ r. ⌜ r ≡ emptyTotals ⌝ }
+        ensures { λ _. do ⌜ (← ⟦PROFILES⟧ .entry) ≡ mostProfiles ⌝ }
+    {
+        LeafTotals {
+            totals: [0; Book::RULES],
+            unnamed: 0,
+            profiles: 0,
+        }
+    }
+}
+
+impl Totalled {
+    // The paper's number of an answer.
+    pub fn number(self) -> usize
+        ensures { λ r. ⌜ r ≡ numberOf self ⌝ }
+    {
+        match self {
+            Totalled::Accepted => 0,
+            Totalled::Full => 21,
+            Totalled::TooLong => 11,
+            Totalled::BadRows { rows: _ } => 12,
+            Totalled::BadLine { at: _ } => 15,
+            Totalled::Damaged { at: _ } => 13,
+            Totalled::Past => 20,
+        }
+    }
+
+    // Its value.
+    pub fn value(self) -> u64
+        ensures { λ r. ⌜ r ≡ valueOf self ⌝ }
+    {
+        match self {
+            Totalled::Accepted => 0,
+            Totalled::Full => PROFILES as u64,
+            Totalled::TooLong => Book::TEXT as u64,
+            Totalled::BadRows { rows } => rows as u64,
+            Totalled::BadLine { at } => at as u64,
+            Totalled::Damaged { at } => at as u64,
+            Totalled::Past => LIMIT,
+        }
+    }
+}
+
+// ---- a leaf
+
+// Where the last frame of a stack starts: behind its last `;`.
+fn leaf_start(stack: &[u8]) -> usize
+    ensures { λ r. ⌜ r ≡ leafStart (was stack) ⌝ }
+{
+    let mark = lines::find_last(stack, SEMICOLON);
+    if mark == stack.len() {
+        return 0;
+    }
+    mark + 1
+}
+
+// Walks a leaf as a text of its own, and reports nothing.
+fn walk_leaf(goto: &[u16], fall: &[u16], n: usize, leaf: &[u8]) -> Ended
+    ensures { λ r. ⌜ r ≡ endOf (moveOf (was goto) (was fall) n) (was leaf) ⌝ }
+{
+    let mut row = 0;
+    let mut at = 0;
+    while at < leaf.len() {
+        match one_byte::move_on(goto, fall, n, row, leaf[at]) {
+            one_byte::Moved::Reached {
+                row: next,
+                falls: _,
+            } => {
+                row = next;
+                at += 1;
+            }
+            one_byte::Moved::Lost => return Ended::AtByte { at },
+        }
+    }
+    Ended::InRow { row }
+}
+
+// The lowest rule that is in both sets, or the place after the last rule.
+fn lowest(live: &[u64], out: &[u64]) -> usize
+    ensures { λ r. ⌜ r ≡ lowestOf (setOf (was live)) (setOf (was out)) ⌝ }
+{
+    let mut i: usize = 0;
+    while i < WORDS {
+        let both = words::word(live, i) & words::word(out, i);
+        if both != 0 {
+            return 64 * i + bits::first(both) as usize;
+        }
+        i += 1;
+    }
+    Book::RULES
+}
+
+// A row's held length; 0 where the table has no such row.
+fn held_at(held: &[u8], row: usize) -> usize
+    ensures { λ r. ⌜ r ≡ getD (was held) row 0 ⌝ }
+{
+    if row < held.len() {
+        return held[row] as usize;
+    }
+    0
+}
+
+// The family of a leaf of `size` bytes whose walk ends in the row.
+fn family(held: &[u8], live: &[u64], out: &[u64], row: usize, size: usize) -> usize
+    ensures { λ r. ⌜ r ≡ familyAt (was held) (was live) (was out) row size ⌝ }
+{
+    if held_at(held, row) != size {
+        return Book::RULES;
+    }
+    let whole = one_byte::rules(live, row);
+    let ending = one_byte::rules(out, row);
+    lowest(&whole, &ending)
+}
+
+// ---- a profile
+
+// What a line's leaf comes to.
+fn count_line(
+    goto: &[u16],
+    fall: &[u16],
+    held: &[u8],
+    live: &[u64],
+    out: &[u64],
+    n: usize,
+    line: &[u8],
+) -> Leaf
+    ensures { λ r. ⌜ r ≡ lineLeaf (given goto fall held live out) n (was line) ⌝ }
+{
+    match lines::read_line(line) {
+        Line::Sound { stack, count } => {
+            let start = leaf_start(&line[..stack]);
+            match walk_leaf(goto, fall, n, &line[start..stack]) {
+                Ended::InRow { row } => Leaf::Counts {
+                    place: family(held, live, out, row, stack - start),
+                    count,
+                },
+                Ended::AtByte { at } => Leaf::Fails { at: start + at },
+            }
+        }
+        Line::Broken => Leaf::Counts {
+            place: Book::RULES,
+            count: 0,
+        },
+    }
+}
+
+// The counts of a profile's lines, each at its leaf's place.
+fn count_lines(
+    goto: &[u16],
+    fall: &[u16],
+    held: &[u8],
+    live: &[u64],
+    out: &[u64],
+    n: usize,
+    profile: &[u8],
+) -> Parts
+    requires { ⌜ length (now profile) ≤ mostBytes ⌝ }
+    ensures { λ r. ⌜ CountedLines (given goto fall held live out) n (was profile) r ⌝ }
+{
+    let mut parts: [u64; PLACES] = [0; PLACES];
+    let mut at = 0;
+    while at < profile.len() {
+        let end = lines::find(profile, at, LF);
+        match count_line(goto, fall, held, live, out, n, &profile[at..end]) {
+            Leaf::Counts { place, count } => {
+                parts[place] += count;
+                at = end + 1;
+            }
+            Leaf::Fails { at: byte } => {
+                return Parts {
+                    pass: Pass::Ends { at: at + byte },
+                    parts,
+                };
+            }
+        }
+    }
+    Parts {
+        pass: Pass::Through,
+        parts,
+    }
+}
+
+// ---- the record
+
+// All totals of a record, unnamed last.
+fn totals_of(old: LeafTotals) -> [u64; PLACES]
+    ensures { λ r. ⌜ r ≡ totalsIn old ⌝ }
+{
+    let mut all: [u64; PLACES] = [0; PLACES];
+    let mut i: usize = 0;
+    while i < Book::RULES {
+        all[i] = old.totals[i];
+        i += 1;
+    }
+    all[Book::RULES] = old.unnamed;
+    all
+}
+
+// The record with the parts of one profile more.
+fn with_parts(old: LeafTotals, parts: &[u64; PLACES]) -> LeafTotals
+    requires { ⌜ Joins old (now parts) ⌝ }
+    ensures { λ r. ⌜ r ≡ withParts old (amountAt (was parts)) ⌝ }
+{
+    let mut totals: [u64; Book::RULES] = [0; Book::RULES];
+    let mut i: usize = 0;
+    while i < Book::RULES {
+        totals[i] = old.totals[i] + parts[i];
+        i += 1;
+    }
+    LeafTotals {
+        totals,
+        unnamed: old.unnamed + parts[Book::RULES],
+        profiles: old.profiles + 1,
+    }
+}
+
+// What was counted joins the record, where all of it was and the total stays within the limit.
+fn merge(counted: Parts, old: LeafTotals) -> Handed
+    requires { ⌜ old .profiles < mostProfiles ⌝ }
+    ensures { λ r. ⌜ r ≡ merged counted old ⌝ }
+{
+    let pass = counted.pass;
+    match pass {
+        Pass::Ends { at } => Handed {
+            answer: Totalled::Damaged { at },
+            back: old,
+        },
+        Pass::Through => {
+            let before = shares::total(&totals_of(old));
+            let more = shares::total(&counted.parts);
+            if LIMIT < before + more {
+                return Handed {
+                    answer: Totalled::Past,
+                    back: old,
+                };
+            }
+            Handed {
+                answer: Totalled::Accepted,
+                back: with_parts(old, &counted.parts),
+            }
+        }
+    }
+}
+
+// ---- what is called
+
+// Adds a profile to the record. A refusal hands the record back as it was.
+pub fn add(
+    goto: &[u16],
+    fall: &[u16],
+    held: &[u8],
+    live: &[u64],
+    out: &[u64],
+    n: usize,
+    profile: &[u8],
+    old: LeafTotals,
+) -> Handed
+    ensures { λ r. ⌜ r ≡ addOf (given goto fall held live out) n (was profile) old ⌝ }
+{
+    if PROFILES <= old.profiles {
+        return Handed {
+            answer: Totalled::Full,
+            back: old,
+        };
+    }
+    if Book::TEXT < profile.len() {
+        return Handed {
+            answer: Totalled::TooLong,
+            back: old,
+        };
+    }
+    if !lent::has_rows(goto, fall, held, live, out, n) {
+        return Handed {
+            answer: Totalled::BadRows { rows: n },
+            back: old,
+        };
+    }
+    match lines::check(profile) {
+        Pass::Ends { at } => Handed {
+            answer: Totalled::BadLine { at },
+            back: old,
+        },
+        Pass::Through => {
+            let counted = count_lines(goto, fall, held, live, out, n, profile);
+            merge(counted, old)
+        }
+    }
+}
+
+// The shares of a record in thousandths, unnamed last.
+pub fn shares_of(old: LeafTotals) -> Shares
+    ensures { λ r. ⌜ r ≡ sharesIn old ⌝ }
+{
+    shares::share(&totals_of(old))
+}

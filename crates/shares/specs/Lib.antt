@@ -1,0 +1,4 @@
+pub mod Below
+pub mod Ranks
+pub mod Shares
+pub mod Demands

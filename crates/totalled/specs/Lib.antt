@@ -1,0 +1,3 @@
+-- What is said of leaf totals: Adding is of any tables, Families of the tables of rules and of a book built. Assumes nothing.
+pub mod Adding
+pub mod Families

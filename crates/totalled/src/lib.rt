@@ -1,0 +1,1 @@
+// What leaf totals add up to: definitions in specs/, theorems in proofs/. No code.

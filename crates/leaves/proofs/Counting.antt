@@ -1,5 +1,4 @@
 -- What the loop over a profile's lines goes by: what is counted so far and what the rest adds is what the profile adds, at each place. Assumes nothing.
-use mathlib.Core.Bool.{cond}
 use mathlib.Core.List.{List}
 use mathlib.Core.Logic.{_≢_}
 use mathlib.Core.Path.{_≡_, refl, sym, ap, _∙_}
@@ -7,7 +6,6 @@ use Prim.Native.Nat.{ℕ, _+_, _^_, _≤_, _<_}
 use native.Mathlib.Decide.{decLt}
 use native.Mathlib.Omega.{arith}
 use borrow.Author.Tests.{eq-eqb, ne-eqb}
-use lib.Dec.{eqb}
 use lib.ListN.{length, getD, set, drop, replicate, length-set, length-replicate, drop-of-length-le}
 use lib.Seq.{getD-set-same, getD-set-other}
 use Rattle.sets.specs.Sums.{sumOver}
@@ -15,13 +13,12 @@ use Rattle.meaning.specs.Tables.{Five}
 use Rattle.book.specs.Limits.{mostBytes}
 use Rattle.lines.specs.declared.Pass.the-variants.{Through, Ends}
 use Rattle.lines.specs.Lines.{lf, split, linesOf, upTo, onPass, passOver}
-use Rattle.lines.specs.Profile.{counts}
 use Rattle.lines.proofs.Lines.{piece, lines-step, lines-pass, lines-end}
 use Rattle.lines.proofs.Counts.{counts-fit}
 use Rattle.shares.specs.Shares.{allPlaces, tabulate, amountAt}
 use Rattle.shares.proofs.Tables.{is-table, getD-zeros}
 use Rattle.leaves.specs.declared.Leaf.{Leaf}
-use Rattle.leaves.specs.declared.Leaf.the-variants.{Counts, Fails}
+use Rattle.leaves.specs.declared.Leaf.the-variants.{Counts}
 use Rattle.leaves.specs.Leaf.{lineLeaf, onLeaf}
 use Rattle.leaves.specs.Totals.{leafPass, leavesPass, lineAdds, profileAdds}
 use Rattle.leaves.proofs.EachPlace.{place-within, adds-within}

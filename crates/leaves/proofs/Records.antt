@@ -1,6 +1,6 @@
 -- Laws of the record: what stands at a place, and what was counted joins it. Assumes nothing.
 use mathlib.Core.List.{List}
-use mathlib.Core.Path.{_≡_, refl, ap, _∙_}
+use mathlib.Core.Path.{_≡_}
 use Prim.Native.Nat.{ℕ, _+_, _≤_, _<_, min}
 use native.Mathlib.Omega.{arith}
 use borrow.Author.Tests.{lt-ltb, le-ltb}
@@ -12,7 +12,6 @@ use Rattle.shares.proofs.Below.{sum-at}
 use Rattle.shares.proofs.Tables.{getD-table, Filled, filled-next, filled-all}
 use Rattle.leaves.specs.declared.LeafTotals.{LeafTotals}
 use Rattle.leaves.specs.declared.Totalled.the-variants.{Accepted, Damaged, Past}
-use Rattle.leaves.specs.declared.Handed.{Handed}
 use Rattle.leaves.specs.declared.Parts.{Parts}
 use Rattle.leaves.specs.Leaf.{unnamed}
 use Rattle.leaves.specs.Totals.{mostProfiles, totalAt, totalsIn, wholeIn, withParts}

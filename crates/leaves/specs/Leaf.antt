@@ -10,8 +10,6 @@ use Rattle.meaning.specs.Tables.{Five}
 use Rattle.book.specs.Limits.{mostRules}
 use Rattle.one_byte.specs.declared.Moved.{Moved}
 use Rattle.one_byte.specs.Move.{moveOf, onMove}
-use Rattle.lines.specs.declared.Pass.{Pass}
-use Rattle.lines.specs.declared.Pass.the-variants.{Through, Ends}
 use Rattle.lines.specs.Lines.{framesOf, lineOf, onLine}
 use Rattle.lines.specs.Written.{startOf}
 use Rattle.leaves.specs.declared.Ended.{Ended}

@@ -19,7 +19,7 @@ ghost use Rattle.lent.specs.Lent.{given};
 ghost use Rattle.one_byte.specs.Move.{moveOf};
 ghost use Rattle.shares.specs.Shares.{amountAt};
 ghost use Rattle.leaves.specs.Leaf.{leafStart, endOf, lowestOf, familyAt, lineLeaf};
-ghost use Rattle.leaves.specs.Totals.{leavesPass, mostProfiles, totalsIn, emptyTotals, withParts, addOf, sharesIn, numberOf, valueOf};
+ghost use Rattle.leaves.specs.Totals.{mostProfiles, totalsIn, emptyTotals, withParts, addOf, sharesIn, numberOf, valueOf};
 ghost use Rattle.leaves.specs.Steps.{CountedLines, Joins, merged};
 
 // The most profiles of a record.

@@ -12,7 +12,7 @@ use Rattle.shares.specs.Below.{sumBelow, oneIf, countBelow}
 use Rattle.shares.specs.Ranks.{standsBefore, rank}
 use Rattle.shares.specs.Shares.{floorOf, remainderOf, missing, getsOne, shareIn}
 use Rattle.shares.proofs.Below.{sum-same, sum-le, sum-lt, sum-plus, sum-times, sum-few}
-use Rattle.shares.proofs.Ranks.{one-most, under-yes, under-no, Before, larger, told, behind, itself, Stands, ahead, same, after, stands, ranks, rank-less}
+use Rattle.shares.proofs.Ranks.{one-most, under-yes, under-no, Before, larger, told, behind, itself, ahead, same, after, stands, ranks, rank-less}
 
 -- the share by the numbers at hand: with one more, and without
 module _ (t : ℕ → ℕ) (n whole i : ℕ) {down behind lacking : ℕ} (f : down ≡ floorOf whole (t i)) (r : behind ≡ rank (λ j. remainderOf whole (t j)) n i) (m : lacking ≡ missing t n whole) where

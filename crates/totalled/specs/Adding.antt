@@ -21,7 +21,6 @@ use Rattle.shares.specs.Below.{sumBelow}
 use Rattle.shares.specs.Shares.{allPlaces, limit}
 use Rattle.shares.specs.Demands.{Demanded}
 use Rattle.leaves.specs.declared.LeafTotals.{LeafTotals}
-use Rattle.leaves.specs.declared.Totalled.{Totalled}
 use Rattle.leaves.specs.declared.Handed.{Handed}
 use Rattle.leaves.specs.Leaf.{endOf, onEnd, unnamed, familyAt}
 use Rattle.leaves.specs.Totals.{mostProfiles, totalAt, totalsIn, wholeIn, emptyTotals, addOf, numberOf, valueOf}

@@ -21,7 +21,7 @@ use Rattle.shares.specs.Shares.{limit}
 use Rattle.leaves.specs.declared.LeafTotals.{LeafTotals}
 use Rattle.leaves.specs.Leaf.{unnamed}
 use Rattle.leaves.specs.Totals.{mostProfiles, wholeIn, numberOf}
-use Rattle.totalled.specs.Adding.{AddCall, comesTo, AddAnswers, familyOver}
+use Rattle.totalled.specs.Adding.{comesTo, AddAnswers, familyOver}
 
 -- p is the family of the leaf: the lowest rule that fits the whole of it, and `unnamed` where none does
 pub record IsFamily (r : Rules) (leaf : List ℕ) (p : ℕ) : Type 0 where

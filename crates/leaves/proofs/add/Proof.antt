@@ -1,7 +1,5 @@
 -- `leaves::add` meets its contract: refusal by refusal, and then by what was counted. Assumes nothing.
-use mathlib.Core.Bool.{true, false}
-use mathlib.Core.Path.{_≡_, sym, _∙_}
-use native.Mathlib.Omega.{arith}
+use mathlib.Core.Path.{sym, _∙_}
 use borrow.Author.Tests.{not-true, not-false}
 use borrow.Author.Needs.{needs}
 use Rattle.leaves.proofs.Answers.{add-full, add-long, add-rows, add-line, add-counted}

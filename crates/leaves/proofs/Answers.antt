@@ -23,7 +23,7 @@ use Rattle.leaves.specs.declared.Totalled.{Totalled}
 use Rattle.leaves.specs.declared.Totalled.the-variants.{Accepted, Full, TooLong, BadRows, BadLine, Damaged, Past}
 use Rattle.leaves.specs.declared.Handed.{Handed}
 use Rattle.leaves.specs.declared.Parts.{Parts}
-use Rattle.leaves.specs.Leaf.{unnamed}
+use Rattle.leaf.specs.Leaf.{unnamed}
 use Rattle.leaves.specs.Totals.{leavesPass, profileAdds, mostProfiles, totalAt, wholeIn, withParts, afterPass, addAnswer, recordAfter, addOf}
 use Rattle.leaves.specs.Steps.{CountedLines, grown, onParts, merged}
 use Rattle.leaves.proofs.EachPlace.{adds-to-counts}
@@ -59,15 +59,15 @@ module _ (b : Five) (n : ℕ) (profile : List ℕ) (t : LeafTotals) where
     add-long h = answered (rw (lt-leb mostProfiles (t .profiles) few, lt-ltb mostBytes (length profile) h))
 
     module _ (short : length profile ≤ mostBytes) where
-      pub add-rows : hasRows b n ≡ false → record { answer = BadRows n; back = t } ≡ addOf b n profile t
+      pub add-rows : {s : Bool} → s ≡ hasRows b n → s ≡ false → record { answer = BadRows n; back = t } ≡ addOf b n profile t
       unfolding addAnswer
-      add-rows h = answered (rw (lt-leb mostProfiles (t .profiles) few, le-ltb mostBytes (length profile) short, h))
+      add-rows h k = answered (rw (lt-leb mostProfiles (t .profiles) few, le-ltb mostBytes (length profile) short, sym h ∙ k))
 
-      module _ (rows : hasRows b n ≡ true) {r : Pass} (p : r ≡ checkOf profile) where
+      module _ {s : Bool} {r : Pass} (h : s ≡ hasRows b n) (rows : s ≡ true) (p : r ≡ checkOf profile) where
         begun : {q : Pass} → r ≡ q
             → addAnswer b n profile t ≡ afterPass q (λ at. BadLine at) (afterPass (leavesPass b n profile) (λ at. Damaged at) (cond (ltb limit (wholeIn t + counts profile)) Past Accepted))
         unfolding addAnswer
-        begun e = rw (lt-leb mostProfiles (t .profiles) few, le-ltb mostBytes (length profile) short, rows, sym p ∙ e)
+        begun e = rw (lt-leb mostProfiles (t .profiles) few, le-ltb mostBytes (length profile) short, sym h ∙ rows, sym p ∙ e)
 
         pub add-line : {at : ℕ} → r ≡ Ends at → record { answer = BadLine at; back = t } ≡ addOf b n profile t
         add-line e = answered (begun e)

@@ -17,11 +17,12 @@ use Rattle.lines.proofs.Lines.{piece, lines-step, lines-pass, lines-end}
 use Rattle.lines.proofs.Counts.{counts-fit}
 use Rattle.shares.specs.Shares.{allPlaces, tabulate, amountAt}
 use Rattle.shares.proofs.Tables.{is-table, getD-zeros}
-use Rattle.leaves.specs.declared.Leaf.{Leaf}
-use Rattle.leaves.specs.declared.Leaf.the-variants.{Counts}
-use Rattle.leaves.specs.Leaf.{lineLeaf, onLeaf}
+use Rattle.leaf.specs.declared.Leaf.{Leaf}
+use Rattle.leaf.specs.declared.Leaf.the-variants.{Counts}
+use Rattle.leaf.specs.Leaf.{lineLeaf, onLeaf}
 use Rattle.leaves.specs.Totals.{leafPass, leavesPass, lineAdds, profileAdds}
-use Rattle.leaves.proofs.EachPlace.{place-within, adds-within}
+use Rattle.leaf.proofs.Place.{place-within}
+use Rattle.leaves.proofs.EachPlace.{adds-within}
 
 module _ (b : Five) (n : ℕ) (profile : List ℕ) where
   -- what the lines from `at` on add to a place

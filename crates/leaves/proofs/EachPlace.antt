@@ -1,68 +1,36 @@
 -- What a profile adds to the places: each line's count goes to one place, so that the parts add up to the counts. Assumes nothing.
 use mathlib.Core.Bool.{Bool, true, false, cond}
 use mathlib.Core.List.{List, [], _∷_}
-use mathlib.Core.Path.{_≡_, refl, ap, ap₂, _∙_}
+use mathlib.Core.Path.{_≡_, refl, ap₂, _∙_}
 use Prim.Native.Nat.{ℕ, zero, suc, _+_, _≤_, _<_}
 use native.Mathlib.Decide.{decLt}
 use native.Mathlib.Omega.{arith}
 use borrow.Author.Tests.{eq-eqb, ne-eqb}
 use lib.Dec.{eqb}
-use lib.ListN.{length, take}
+use lib.ListN.{length}
 use Rattle.sets.specs.Sums.{sumOver}
 use Rattle.sets.proofs.Sums.{sum-le}
 use Rattle.meaning.specs.Tables.{Five}
-use Rattle.one_byte.specs.Move.{moveOf}
-use Rattle.lines.specs.declared.Line.{Line}
-use Rattle.lines.specs.declared.Line.the-variants.{Sound, Broken}
 use Rattle.lines.specs.declared.Pass.{Pass}
 use Rattle.lines.specs.declared.Pass.the-variants.{Through, Ends}
-use Rattle.lines.specs.Lines.{linesOf, onPass, passOver, lineOf, onLine}
+use Rattle.lines.specs.Lines.{linesOf, onPass, passOver}
 use Rattle.lines.specs.Profile.{countIn, counts}
 use Rattle.shares.specs.Below.{sumBelow}
 use Rattle.shares.specs.Shares.{allPlaces}
 use Rattle.shares.proofs.Below.{sum-plus}
-use Rattle.leaves.specs.declared.Ended.{Ended}
-use Rattle.leaves.specs.declared.Ended.the-variants.{InRow, AtByte}
-use Rattle.leaves.specs.declared.Leaf.{Leaf}
-use Rattle.leaves.specs.declared.Leaf.the-variants.{Counts, Fails}
-use Rattle.leaves.specs.Leaf.{endOf, onEnd, leafOf, leafStart, unnamed, familyAt, stackLeaf, lineLeaf, onLeaf}
+use Rattle.leaf.specs.declared.Leaf.{Leaf}
+use Rattle.leaf.specs.declared.Leaf.the-variants.{Counts, Fails}
+use Rattle.leaf.specs.Leaf.{lineLeaf, onLeaf}
 use Rattle.leaves.specs.Totals.{leafPass, leavesPass, lineAdds, profileAdds}
-use Rattle.leaves.proofs.InBoth.{family-within}
+use Rattle.leaf.proofs.Place.{OnePlace, line-placed}
+use Rattle.leaf.proofs.Stacks.{not-through}
 
--- ---- what the leaf of a line of this count tells: it goes to one of the places, and all of it
-
-abbrev OnePlace : ℕ → Leaf → Type 0
-OnePlace all (Counts place count) = (place ≤ unnamed) × (count ≡ all)
-OnePlace all (Fails at) = Unit {0}
+-- ---- no place has more than the counts
 
 module _ (b : Five) (n : ℕ) where
-  stack-placed : (stack : List ℕ) (count : ℕ) → OnePlace count (stackLeaf b n stack count)
-  unfolding stackLeaf
-  stack-placed stack count = go (endOf (moveOf (b .goto) (b .fall) n) (leafOf stack))
-    where
-      go : (e : Ended) → OnePlace count (onEnd e (λ row. Counts (familyAt (b .held) (b .live) (b .out) row (length (leafOf stack))) count) (λ at. Fails (leafStart stack + at)))
-      go (InRow row) = (family-within (b .held) (b .live) (b .out) row (length (leafOf stack)), refl)
-      go (AtByte at) = tt
-
-  line-placed : (line : List ℕ) → OnePlace (countIn line) (lineLeaf b n line)
-  unfolding lineLeaf
-  line-placed line = go (lineOf line)
-    where
-      go : (l : Line) → OnePlace (onLine l (λ stack count. count) 0) (onLine l (λ stack count. stackLeaf b n (take stack line) count) (Counts unnamed 0))
-      go (Sound stack count) = stack-placed (take stack line) count
-      go Broken = (omega arith, refl)
-
-  pub place-within : (line : List ℕ) {place count : ℕ} → lineLeaf b n line ≡ Counts place count → place ≤ unnamed
-  place-within line e = (rw e at (line-placed line)) .0
-
-  pub count-placed : (line : List ℕ) {place count : ℕ} → lineLeaf b n line ≡ Counts place count → count ≡ countIn line
-  count-placed line e = (rw e at (line-placed line)) .1
-
-  -- ---- no place has more than the counts
-
   pub line-adds-within : (p : ℕ) (line : List ℕ) → lineAdds b n p line ≤ countIn line
   unfolding lineAdds
-  line-adds-within p line = go (lineLeaf b n line) (line-placed line)
+  line-adds-within p line = go (lineLeaf b n line) (line-placed b n line)
     where
       some : (t : Bool) (c : ℕ) → cond t c 0 ≤ c
       some true c = omega arith
@@ -102,13 +70,6 @@ module _ (q c : ℕ) where
   ]
 
 -- ---- a pass that gets through adds all the counts
-
-abbrev endings : Pass → ℕ
-endings Through = 0
-endings (Ends at) = 1
-
-pub not-through : {A : Type 0} {at : ℕ} → Ends at ≡ Through → A
-not-through e = absurd (omega (arith, ap endings e))
 
 pub both-through : (a b : Pass) → onPass a b ≡ Through → (a ≡ Through) × (b ≡ Through)
 both-through Through b e = (refl, e)

@@ -1,9 +1,4 @@
-pub mod Frames
-pub mod InBoth
-pub mod Walks
-pub mod Lines
 pub mod EachPlace
-pub mod Stacks
 pub mod Counting
 pub mod Records
 pub mod Answers

@@ -13,7 +13,7 @@ use Rattle.shares.proofs.Tables.{getD-table, Filled, filled-next, filled-all}
 use Rattle.leaves.specs.declared.LeafTotals.{LeafTotals}
 use Rattle.leaves.specs.declared.Totalled.the-variants.{Accepted, Damaged, Past}
 use Rattle.leaves.specs.declared.Parts.{Parts}
-use Rattle.leaves.specs.Leaf.{unnamed}
+use Rattle.leaf.specs.Leaf.{unnamed}
 use Rattle.leaves.specs.Totals.{mostProfiles, totalAt, totalsIn, wholeIn, withParts}
 use Rattle.leaves.specs.Steps.{Joins, merged}
 

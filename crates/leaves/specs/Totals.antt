@@ -18,7 +18,7 @@ use Rattle.leaves.specs.declared.LeafTotals.{LeafTotals}
 use Rattle.leaves.specs.declared.Totalled.{Totalled}
 use Rattle.leaves.specs.declared.Totalled.the-variants.{Accepted, Full, TooLong, BadRows, BadLine, Damaged, Past}
 use Rattle.leaves.specs.declared.Handed.{Handed}
-use Rattle.leaves.specs.Leaf.{unnamed, lineLeaf, onLeaf}
+use Rattle.leaf.specs.Leaf.{unnamed, lineLeaf, onLeaf}
 
 -- ---- a profile
 

@@ -12,9 +12,9 @@ use Rattle.lines.specs.declared.Line.the-variants.{Sound, Broken}
 use Rattle.lines.specs.declared.Pass.the-variants.{Through, Ends}
 use Rattle.lines.specs.Lines.{lineOf}
 use Rattle.lines.specs.Profile.{countIn}
-use Rattle.leaves.specs.Leaf.{endFrom, endOf, onEnd, familyAt, lineLeaf, onLeaf}
+use Rattle.leaf.specs.Leaf.{endFrom, endOf, onEnd, familyAt, lineLeaf, onLeaf}
 use Rattle.leaves.specs.Totals.{leafPass, lineAdds}
-use Rattle.leaves.proofs.Stacks.{stack-by-end, kept-end}
+use Rattle.leaf.proofs.Stacks.{stack-by-end, kept-end}
 use Rattle.totalled.specs.Adding.{leafIn, leafFrom, familyOver}
 
 module _ (b : Five) (n : ℕ) where

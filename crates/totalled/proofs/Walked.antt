@@ -24,7 +24,7 @@ use Rattle.one_byte.proofs.Laws.{Within, move-within, move-lent}
 use Rattle.walk.proofs.Laws.{walked}
 use Rattle.lines.specs.declared.Pass.{Pass}
 use Rattle.lines.specs.declared.Pass.the-variants.{Through}
-use Rattle.leaves.specs.Leaf.{endFrom, endOf, onEnd}
+use Rattle.leaf.specs.Leaf.{endFrom, endOf, onEnd}
 
 -- f of the row where a run ends, or g of the byte where it stops
 abbrev onRun : {A : Type 0} → Counted → (ℕ → A) → (ℕ → A) → A

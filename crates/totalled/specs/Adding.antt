@@ -22,7 +22,7 @@ use Rattle.shares.specs.Shares.{allPlaces, limit}
 use Rattle.shares.specs.Demands.{Demanded}
 use Rattle.leaves.specs.declared.LeafTotals.{LeafTotals}
 use Rattle.leaves.specs.declared.Handed.{Handed}
-use Rattle.leaves.specs.Leaf.{endOf, onEnd, unnamed, familyAt}
+use Rattle.leaf.specs.Leaf.{endOf, onEnd, unnamed, familyAt}
 use Rattle.leaves.specs.Totals.{mostProfiles, totalAt, totalsIn, wholeIn, emptyTotals, addOf, numberOf, valueOf}
 
 -- ---- a call

@@ -19,7 +19,7 @@ use Rattle.lines.specs.Lines.{linesOf}
 use Rattle.lines.specs.Profile.{AllSound, counts}
 use Rattle.shares.specs.Shares.{limit}
 use Rattle.leaves.specs.declared.LeafTotals.{LeafTotals}
-use Rattle.leaves.specs.Leaf.{unnamed}
+use Rattle.leaf.specs.Leaf.{unnamed}
 use Rattle.leaves.specs.Totals.{mostProfiles, wholeIn, numberOf}
 use Rattle.totalled.specs.Adding.{comesTo, AddAnswers, familyOver}
 

@@ -1,5 +1,4 @@
 -- `leaves::add` meets its contract: refusal by refusal, and then by what was counted. Assumes nothing.
-use mathlib.Core.Path.{sym, _∙_}
 use borrow.Author.Tests.{not-true, not-false}
 use borrow.Author.Needs.{needs}
 use Rattle.leaves.proofs.Answers.{add-full, add-long, add-rows, add-line, add-counted}
@@ -16,7 +15,7 @@ has-rows-requires : tie.Need-has-rows-requires
 has-rows-requires c κs = search needs
 
 returns-3 : tie.Need-returns-3
-returns-3 c = add-rows _ _ _ _ (c .before .before .before .if1 .left) (c .before .before .if2 .left) (sym (c .before .has-rows .ensures) ∙ not-true _ (c .if3 .taken))
+returns-3 c = add-rows _ _ _ _ (c .before .before .before .if1 .left) (c .before .before .if2 .left) (c .before .has-rows .ensures) (not-true _ (c .if3 .taken))
 
 check-requires : tie.Need-check-requires
 check-requires c κs = search needs
@@ -38,7 +37,7 @@ returns-4 c =
     let k = c .before .before .before in
     let i = k .before in
     let h = i .before in
-    add-line _ _ _ _ (h .before .before .if1 .left) (h .before .if2 .left) (sym (h .has-rows .ensures) ∙ not-false _ (i .if3 .left)) (k .check .ensures) (c .before .at .given .1)
+    add-line _ _ _ _ (h .before .before .if1 .left) (h .before .if2 .left) (h .has-rows .ensures) (not-false _ (i .if3 .left)) (k .check .ensures) (c .before .at .given .1)
 
 returns-5 : tie.Need-returns-5
 returns-5 c =
@@ -46,7 +45,7 @@ returns-5 c =
     let k = l .before .before .before in
     let i = k .before in
     let h = i .before in
-    add-counted _ _ _ _ (h .before .before .if1 .left) (h .before .if2 .left) (sym (h .has-rows .ensures) ∙ not-false _ (i .if3 .left)) (k .check .ensures) (l .before .enum-told .given .1) _ (l .count-lines .ensures) (c .merge .ensures)
+    add-counted _ _ _ _ (h .before .before .if1 .left) (h .before .if2 .left) (h .has-rows .ensures) (not-false _ (i .if3 .left)) (k .check .ensures) (l .before .enum-told .given .1) _ (l .count-lines .ensures) (c .merge .ensures)
 
 pub add-spec : {M : Type 1} → statement M
 add-spec =

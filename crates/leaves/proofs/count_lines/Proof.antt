@@ -10,8 +10,8 @@ use Rattle.lines.specs.Lines.{linesOf, passOver}
 use Rattle.lines.proofs.Lines.{piece-length}
 use Rattle.shares.specs.Shares.{allPlaces}
 use Rattle.leaves.specs.Totals.{leafPass, leavesPass}
-use Rattle.leaves.proofs.Lines.{fails-within}
-use Rattle.leaves.proofs.EachPlace.{not-through}
+use Rattle.leaf.proofs.Lines.{fails-within}
+use Rattle.leaf.proofs.Stacks.{not-through}
 use Rattle.leaves.proofs.Counting.{Counted, counted-none, counted-all, place-there, count-fits, counted-next, leaf-turn, leaves-end}
 use Rattle.leaves.proofs.count_lines.Statement.{statement}
 use Rattle.leaves.proofs.count_lines.Tie as tie
@@ -30,7 +30,7 @@ there c =
     let k = c .before .before .before in
     let l = k .before .before .before in
     let f = k .before .before .find .ensures in
-    place-there _ _ _ (l .loop-test .taken) (f .0) (omega (arith, f .1, l .loop-test .taken)) (k .count-line .ensures) (c .before .place .given .1)
+    place-there _ _ _ (l .loop-test .taken) (f .0) (omega (arith, f .1, l .loop-test .taken)) (k .of-line .ensures) (c .before .place .given .1)
 
 loop-holds : tie.Need-loop-holds Inv-loop μ-loop
 unfolding leavesPass
@@ -39,17 +39,17 @@ loop-holds c = (omega arith, refl, counted-none _ _ _)
 find-requires : tie.Need-find-requires Inv-loop μ-loop
 find-requires c κs = search needs
 
-sub-count-line : tie.Need-sub-count-line Inv-loop μ-loop
-sub-count-line c = search needs
+sub-of-line : tie.Need-sub-of-line Inv-loop μ-loop
+sub-of-line c = search needs
 
-part-count-line-start : tie.Need-part-count-line-start Inv-loop μ-loop
-part-count-line-start c = search needs
+part-of-line-start : tie.Need-part-of-line-start Inv-loop μ-loop
+part-of-line-start c = search needs
 
-part-count-line-end : tie.Need-part-count-line-end Inv-loop μ-loop
-part-count-line-end c = search needs
+part-of-line-end : tie.Need-part-of-line-end Inv-loop μ-loop
+part-of-line-end c = search needs
 
-count-line-requires : tie.Need-count-line-requires Inv-loop μ-loop
-count-line-requires c κs = search needs
+of-line-requires : tie.Need-of-line-requires Inv-loop μ-loop
+of-line-requires c κs = search needs
 
 enum-known-place : tie.Need-enum-known-place Inv-loop μ-loop
 enum-known-place c = search needs
@@ -65,7 +65,7 @@ add-parts c =
     let k = c .before .before .before in
     let l = k .before .before .before in
     let f = k .before .before .find .ensures in
-    omega (arith, count-fits _ _ _ (l .loop-test .taken) (f .0) (omega (arith, f .1, l .loop-test .taken)) (k .count-line .ensures) (c .before .place .given .1) (l .before .before .before .before .before .before .before .before .pre) (l .before .loop .inv .2))
+    omega (arith, count-fits _ _ _ (l .loop-test .taken) (f .0) (omega (arith, f .1, l .loop-test .taken)) (k .of-line .ensures) (c .before .place .given .1) (l .before .before .before .before .before .before .before .before .pre) (l .before .loop .inv .2))
 
 array-write-parts : tie.Need-array-write-parts Inv-loop μ-loop
 array-write-parts c = there c
@@ -83,7 +83,7 @@ loop-again c =
     let f = k .before .before .find .ensures in
     let t = l .loop-test .taken in
     let q = c .before .place .given .1 in
-    (omega arith, leaf-turn _ _ _ t (f .0) (omega (arith, f .1, t)) (k .count-line .ensures) q (l .before .loop .inv .1), counted-next _ _ _ t (f .0) (omega (arith, f .1, t)) (k .count-line .ensures) q (l .before .loop .inv .2))
+    (omega arith, leaf-turn _ _ _ t (f .0) (omega (arith, f .1, t)) (k .of-line .ensures) q (l .before .loop .inv .1), counted-next _ _ _ t (f .0) (omega (arith, f .1, t)) (k .of-line .ensures) q (l .before .loop .inv .2))
 
 enum-known-byte : tie.Need-enum-known-byte Inv-loop μ-loop
 enum-known-byte c = search needs
@@ -94,7 +94,7 @@ add-t25 c =
     let l = k .before .before .before in
     let f = k .before .before .find in
     let p = piece-length (l .before .before .before .before .before .before .before .before .args .profile .now) (l .before .loop .at) (f .result) (omega (arith, f .ensures .0)) (omega (arith, f .ensures .1, l .loop-test .taken)) in
-    omega (arith, fails-within _ _ _ (k .count-line .ensures) (c .before .byte .given .1), p)
+    omega (arith, fails-within _ _ _ (k .of-line .ensures) (c .before .byte .given .1), p)
 
 returns : tie.Need-returns Inv-loop μ-loop
 returns c =
@@ -103,7 +103,7 @@ returns c =
     let f = k .before .before .find .ensures in
     let t = l .loop-test .taken in
     record {
-      passes = leaf-turn _ _ _ t (f .0) (omega (arith, f .1, t)) (k .count-line .ensures) (c .before .byte .given .1) (l .before .loop .inv .1);
+      passes = leaf-turn _ _ _ t (f .0) (omega (arith, f .1, t)) (k .of-line .ensures) (c .before .byte .given .1) (l .before .loop .inv .1);
       parts-are = λ e. not-through e;
     }
 
@@ -121,10 +121,10 @@ count-lines-spec =
     μ-loop
     loop-holds
     find-requires
-    sub-count-line
-    part-count-line-start
-    part-count-line-end
-    count-line-requires
+    sub-of-line
+    part-of-line-start
+    part-of-line-end
+    of-line-requires
     enum-known-place
     mul-parts
     array-read-parts

@@ -12,10 +12,10 @@ use Rattle.one_byte.specs.declared.Moved.{Moved}
 use Rattle.one_byte.specs.Move.{moveOf, onMove}
 use Rattle.lines.specs.Lines.{framesOf, lineOf, onLine}
 use Rattle.lines.specs.Written.{startOf}
-use Rattle.leaves.specs.declared.Ended.{Ended}
-use Rattle.leaves.specs.declared.Ended.the-variants.{InRow, AtByte}
-use Rattle.leaves.specs.declared.Leaf.{Leaf}
-use Rattle.leaves.specs.declared.Leaf.the-variants.{Counts, Fails}
+use Rattle.leaf.specs.declared.Ended.{Ended}
+use Rattle.leaf.specs.declared.Ended.the-variants.{InRow, AtByte}
+use Rattle.leaf.specs.declared.Leaf.{Leaf}
+use Rattle.leaf.specs.declared.Leaf.the-variants.{Counts, Fails}
 
 -- ---- the last frame
 

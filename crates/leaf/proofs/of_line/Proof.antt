@@ -1,4 +1,4 @@
--- `leaves::count_line` meets its contract: by what the line is, and by where the leaf's walk ends. Assumes nothing.
+-- `leaf::of_line` meets its contract: by what the line is, and by where the leaf's walk ends. Assumes nothing.
 use Prim.Native.Nat.{_≤_, _<_}
 use mathlib.Core.Path.{_≡_, sym}
 use native.Mathlib.Omega.{arith}
@@ -8,10 +8,10 @@ use lib.Seq.{length-take-le}
 use Rattle.lines.specs.declared.Line.the-variants.{Sound}
 use Rattle.lines.specs.Lines.{mostCount, lineOf}
 use Rattle.lines.proofs.Lines.{line-is}
-use Rattle.leaves.proofs.Walks.{ended}
-use Rattle.leaves.proofs.Lines.{leaf-broken, starts, leaf-length, leaf-counts, leaf-fails}
-use Rattle.leaves.proofs.count_line.Statement.{statement}
-use Rattle.leaves.proofs.count_line.Tie as tie
+use Rattle.leaf.proofs.Walks.{ended}
+use Rattle.leaf.proofs.Lines.{leaf-broken, starts, leaf-length, leaf-counts, leaf-fails}
+use Rattle.leaf.proofs.of_line.Statement.{statement}
+use Rattle.leaf.proofs.of_line.Tie as tie
 
 -- the line's stack is a part of it
 known : (c : tie.After-stack) →
@@ -88,8 +88,8 @@ returns-2 c =
 returns-3 : tie.Need-returns-3
 returns-3 c = leaf-broken _ _ _ (line-is _ (c .before .before .read-line .ensures) (c .enum-told .given .1) .1)
 
-pub count-line-spec : {M : Type 1} → statement M
-count-line-spec =
+pub of-line-spec : {M : Type 1} → statement M
+of-line-spec =
     tie.close
     (tie.spec
     read-line-requires

@@ -9,9 +9,9 @@ use lib.Seq.{drop-cons}
 use Rattle.one_byte.specs.declared.Moved.{Moved}
 use Rattle.one_byte.specs.declared.Moved.the-variants.{Reached, Lost}
 use Rattle.one_byte.specs.Move.{onMove}
-use Rattle.leaves.specs.declared.Ended.{Ended}
-use Rattle.leaves.specs.declared.Ended.the-variants.{InRow, AtByte}
-use Rattle.leaves.specs.Leaf.{endFrom, endOf}
+use Rattle.leaf.specs.declared.Ended.{Ended}
+use Rattle.leaf.specs.declared.Ended.the-variants.{InRow, AtByte}
+use Rattle.leaf.specs.Leaf.{endFrom, endOf}
 
 -- a walk that is lost is so before the place `end`
 abbrev pub Inside : ℕ → Ended → Type 0

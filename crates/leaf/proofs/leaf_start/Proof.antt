@@ -1,11 +1,11 @@
--- `leaves::leaf_start` meets its contract. Assumes nothing.
+-- `leaf::leaf_start` meets its contract. Assumes nothing.
 use Prim.Native.Nat.{_+_}
 use mathlib.Core.Path.{sym, ap, _∙_}
 use native.Mathlib.Omega.{arith}
 use borrow.Author.Needs.{needs}
-use Rattle.leaves.proofs.Frames.{leaf-none, leaf-behind}
-use Rattle.leaves.proofs.leaf_start.Statement.{statement}
-use Rattle.leaves.proofs.leaf_start.Tie as tie
+use Rattle.leaf.proofs.Frames.{leaf-none, leaf-behind}
+use Rattle.leaf.proofs.leaf_start.Statement.{statement}
+use Rattle.leaf.proofs.leaf_start.Tie as tie
 
 find-last-requires : tie.Need-find-last-requires
 find-last-requires c κs = search needs

@@ -1,10 +1,10 @@
--- `leaves::held_at` meets its contract. Assumes nothing.
+-- `leaf::held_at` meets its contract. Assumes nothing.
 use mathlib.Core.Path.{sym}
 use native.Mathlib.Omega.{arith}
 use lib.ListN.{List·getD-eq-default}
 use borrow.Author.Needs.{needs}
-use Rattle.leaves.proofs.held_at.Statement.{statement}
-use Rattle.leaves.proofs.held_at.Tie as tie
+use Rattle.leaf.proofs.held_at.Statement.{statement}
+use Rattle.leaf.proofs.held_at.Tie as tie
 
 shared-slice-read-result : tie.Need-shared-slice-read-result
 shared-slice-read-result c = search needs

@@ -10,13 +10,13 @@ use Rattle.one_byte.specs.Move.{moveOf}
 use Rattle.lines.specs.declared.Line.{Line}
 use Rattle.lines.specs.declared.Line.the-variants.{Sound, Broken}
 use Rattle.lines.specs.Lines.{lineOf, onLine}
-use Rattle.leaves.specs.declared.Ended.{Ended}
-use Rattle.leaves.specs.declared.Ended.the-variants.{InRow, AtByte}
-use Rattle.leaves.specs.declared.Leaf.{Leaf}
-use Rattle.leaves.specs.declared.Leaf.the-variants.{Counts, Fails}
-use Rattle.leaves.specs.Leaf.{leafOf, leafStart, endOf, onEnd, unnamed, familyAt, stackLeaf, lineLeaf}
-use Rattle.leaves.proofs.Frames.{start-within, leaf-is}
-use Rattle.leaves.proofs.Walks.{Inside, ended}
+use Rattle.leaf.specs.declared.Ended.{Ended}
+use Rattle.leaf.specs.declared.Ended.the-variants.{InRow, AtByte}
+use Rattle.leaf.specs.declared.Leaf.{Leaf}
+use Rattle.leaf.specs.declared.Leaf.the-variants.{Counts, Fails}
+use Rattle.leaf.specs.Leaf.{leafOf, leafStart, endOf, onEnd, unnamed, familyAt, stackLeaf, lineLeaf}
+use Rattle.leaf.proofs.Frames.{start-within, leaf-is}
+use Rattle.leaf.proofs.Walks.{Inside, ended}
 
 drop-take : (i n : ℕ) (l : List ℕ) → drop i (take n l) ≡ take (n - i) (drop i l)
 drop-take zero n l = let q : n - 0 ≡ n = omega arith in rw q

@@ -10,7 +10,7 @@ use lib.ListN.{length, getD, drop}
 use Rattle.lines.specs.Lines.{semicolon, joined, split, lastFrom, lastOf}
 use Rattle.lines.specs.Written.{startOf}
 use Rattle.lines.proofs.Pieces.{start-from}
-use Rattle.leaves.specs.Leaf.{leafOf, leafStart}
+use Rattle.leaf.specs.Leaf.{leafOf, leafStart}
 
 -- The last of a text's pieces: the text itself where no mark is in it, or else what stands behind the last mark, at i.
 data Last (mark : ℕ) : List ℕ → List (List ℕ) → Type 0 where

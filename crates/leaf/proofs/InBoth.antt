@@ -15,7 +15,7 @@ use Rattle.sets.proofs.Laws.{low, digit}
 use Rattle.sets.proofs.Members.{those-ext, those-shift, those-append, members-empty, members-cons}
 use Rattle.sets.proofs.InWords.{Words, has-at}
 use Rattle.book.specs.Limits.{mostRules}
-use Rattle.leaves.specs.Leaf.{unnamed, lowestOf, familyAt}
+use Rattle.leaf.specs.Leaf.{unnamed, lowestOf, familyAt}
 
 -- ---- none is past the rules
 

@@ -1,10 +1,10 @@
--- `leaves::family` meets its contract: each return by the test that led there. Assumes nothing.
+-- `leaf::family` meets its contract: each return by the test that led there. Assumes nothing.
 use mathlib.Core.Path.{sym, ap₂, _∙_}
 use borrow.Author.Tests.{eq-eqb, ne-eqb}
 use borrow.Author.Needs.{needs}
-use Rattle.leaves.specs.Leaf.{lowestOf, familyAt}
-use Rattle.leaves.proofs.family.Statement.{statement}
-use Rattle.leaves.proofs.family.Tie as tie
+use Rattle.leaf.specs.Leaf.{lowestOf, familyAt}
+use Rattle.leaf.proofs.family.Statement.{statement}
+use Rattle.leaf.proofs.family.Tie as tie
 
 held-at-requires : tie.Need-held-at-requires
 held-at-requires c κs = search needs

@@ -1,4 +1,4 @@
--- `leaves::lowest` meets its contract: the lowest from here on is the lowest of all. Assumes nothing.
+-- `leaf::lowest` meets its contract: the lowest from here on is the lowest of all. Assumes nothing.
 use Prim.Native.Nat.{_+_, _-_, _*_, _≤_}
 use mathlib.Core.Path.{_≡_, sym, ap, ap₂, _∙_}
 use native.Mathlib.Omega.{arith}
@@ -8,10 +8,10 @@ use lib.ListN.{getD}
 use Rattle.sets.specs.Sets.{setOf, members}
 use Rattle.sets.specs.Table.{rowWords}
 use Rattle.sets.proofs.InWords.{Words}
-use Rattle.leaves.specs.Leaf.{lowestOf}
-use Rattle.leaves.proofs.InBoth.{lowestFrom, lowest-start, lowest-end, lowest-here, lowest-next}
-use Rattle.leaves.proofs.lowest.Statement.{statement}
-use Rattle.leaves.proofs.lowest.Tie as tie
+use Rattle.leaf.specs.Leaf.{lowestOf}
+use Rattle.leaf.proofs.InBoth.{lowestFrom, lowest-start, lowest-end, lowest-here, lowest-next}
+use Rattle.leaf.proofs.lowest.Statement.{statement}
+use Rattle.leaf.proofs.lowest.Tie as tie
 
 abbrev Inv-loop : tie.InvT-loop
 Inv-loop live out i₀ i = (i ≤ rowWords) × (lowestFrom (setOf live) (setOf out) i ≡ lowestOf (setOf live) (setOf out))

@@ -1,4 +1,4 @@
--- `leaves::walk_leaf` meets its contract: the walk from here on ends where the whole walk does. Assumes nothing.
+-- `leaf::walk_leaf` meets its contract: the walk from here on ends where the whole walk does. Assumes nothing.
 use Prim.Native.Nat.{_+_, _-_, _≤_}
 use mathlib.Core.Path.{_≡_, refl, sym, _∙_}
 use native.Mathlib.Omega.{arith}
@@ -6,11 +6,11 @@ use borrow.Author.Needs.{needs}
 use lib.ListN.{length, drop}
 use Rattle.one_byte.specs.declared.Moved.{Moved}
 use Rattle.one_byte.specs.Move.{moveOf, onMove}
-use Rattle.leaves.specs.declared.Ended.the-variants.{AtByte}
-use Rattle.leaves.specs.Leaf.{endFrom, endOf}
-use Rattle.leaves.proofs.Walks.{end-here, end-move}
-use Rattle.leaves.proofs.walk_leaf.Statement.{statement}
-use Rattle.leaves.proofs.walk_leaf.Tie as tie
+use Rattle.leaf.specs.declared.Ended.the-variants.{AtByte}
+use Rattle.leaf.specs.Leaf.{endFrom, endOf}
+use Rattle.leaf.proofs.Walks.{end-here, end-move}
+use Rattle.leaf.proofs.walk_leaf.Statement.{statement}
+use Rattle.leaf.proofs.walk_leaf.Tie as tie
 
 abbrev Inv-loop : tie.InvT-loop
 Inv-loop goto fall n leaf row₀ at₀ row at =

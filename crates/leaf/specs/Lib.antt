@@ -1,0 +1,2 @@
+-- What the contracts of `leaf` cite. Assumes nothing.
+pub mod Leaf

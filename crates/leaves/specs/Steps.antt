@@ -9,6 +9,7 @@ use Rattle.lines.specs.declared.Pass.{Pass}
 use Rattle.lines.specs.declared.Pass.the-variants.{Through, Ends}
 use Rattle.shares.specs.Shares.{allPlaces, limit, tabulate, amountAt, totalOf}
 use Rattle.leaves.specs.declared.LeafTotals.{LeafTotals}
+use Rattle.leaves.specs.declared.Totalled.{Totalled}
 use Rattle.leaves.specs.declared.Totalled.the-variants.{Accepted, Damaged, Past}
 use Rattle.leaves.specs.declared.Handed.{Handed}
 use Rattle.leaves.specs.declared.Parts.{Parts}
@@ -24,12 +25,16 @@ pub record Joins (t : LeafTotals) (parts : List ℕ) : Type 0 where
   pub few : t .profiles < mostProfiles
   pub fits : (p : ℕ) → p < allPlaces → totalAt t p + amountAt parts p ≤ limit
 
+-- an answer with the record as it was
+abbrev pub handsBack : Totalled → LeafTotals → Handed
+handsBack a t = record { answer = a; back = t }
+
 -- what was counted joins the record, where all of it was and the total stays within the limit
 abbrev pub grown : Parts → LeafTotals → Handed
-grown c t = cond (ltb limit (wholeIn t + totalOf (c .parts))) (record { answer = Past; back = t }) (record { answer = Accepted; back = withParts t (amountAt (c .parts)) })
+grown c t = cond (ltb limit (wholeIn t + totalOf (c .parts))) (handsBack Past t) (record { answer = Accepted; back = withParts t (amountAt (c .parts)) })
 
 abbrev pub onParts : Pass → Handed → LeafTotals → Handed
-onParts (Ends at) next t = record { answer = Damaged at; back = t }
+onParts (Ends at) next t = handsBack (Damaged at) t
 onParts Through next t = next
 
 unfoldable pub merged : Parts → LeafTotals → Handed

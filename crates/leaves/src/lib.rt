@@ -15,7 +15,7 @@ ghost use Rattle.book.specs.Limits.{mostBytes};
 ghost use Rattle.lent.specs.Lent.{given};
 ghost use Rattle.shares.specs.Shares.{amountAt};
 ghost use Rattle.leaves.specs.Totals.{mostProfiles, totalsIn, emptyTotals, withParts, addOf, sharesIn, numberOf, valueOf};
-ghost use Rattle.leaves.specs.Steps.{CountedLines, Joins, merged};
+ghost use Rattle.leaves.specs.Steps.{CountedLines, Joins, handsBack, merged};
 
 // The most profiles of a record.
 const PROFILES: usize = 1024;
@@ -168,6 +168,13 @@ fn with_parts(old: LeafTotals, parts: &[u64; PLACES]) -> LeafTotals
     }
 }
 
+// The record as it was beside a refusal.
+fn refused(answer: Totalled, old: LeafTotals) -> Handed
+    ensures { λ r. ⌜ r ≡ handsBack answer old ⌝ }
+{
+    Handed { answer, back: old }
+}
+
 // What was counted joins the record, where all of it was and the total stays within the limit.
 fn merge(counted: Parts, old: LeafTotals) -> Handed
     requires { ⌜ old .profiles < mostProfiles ⌝ }
@@ -175,18 +182,12 @@ fn merge(counted: Parts, old: LeafTotals) -> Handed
 {
     let pass = counted.pass;
     match pass {
-        Pass::Ends { at } => Handed {
-            answer: Totalled::Damaged { at },
-            back: old,
-        },
+        Pass::Ends { at } => refused(Totalled::Damaged { at }, old),
         Pass::Through => {
             let before = shares::total(&totals_of(old));
             let more = shares::total(&counted.parts);
             if LIMIT < before + more {
-                return Handed {
-                    answer: Totalled::Past,
-                    back: old,
-                };
+                return refused(Totalled::Past, old);
             }
             Handed {
                 answer: Totalled::Accepted,
@@ -212,28 +213,16 @@ pub fn add(
     ensures { λ r. ⌜ r ≡ addOf (given goto fall held live out) n (was profile) old ⌝ }
 {
     if PROFILES <= old.profiles {
-        return Handed {
-            answer: Totalled::Full,
-            back: old,
-        };
+        return refused(Totalled::Full, old);
     }
     if Book::TEXT < profile.len() {
-        return Handed {
-            answer: Totalled::TooLong,
-            back: old,
-        };
+        return refused(Totalled::TooLong, old);
     }
     if !lent::has_rows(goto, fall, held, live, out, n) {
-        return Handed {
-            answer: Totalled::BadRows { rows: n },
-            back: old,
-        };
+        return refused(Totalled::BadRows { rows: n }, old);
     }
     match lines::check(profile) {
-        Pass::Ends { at } => Handed {
-            answer: Totalled::BadLine { at },
-            back: old,
-        },
+        Pass::Ends { at } => refused(Totalled::BadLine { at }, old),
         Pass::Through => {
             let counted = count_lines(goto, fall, held, live, out, n, profile);
             merge(counted, old)

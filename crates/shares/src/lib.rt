@@ -155,17 +155,18 @@ fn share_out(totals: &[u64; PLACES], whole: u64) -> [u16; PLACES]
 pub fn share(totals: &[u64; PLACES]) -> Shares
     ensures { λ r. ⌜ r ≡ sharesOf (was totals) ⌝ }
 {
+    let none: [u16; PLACES] = [0; PLACES];
     let whole = total(totals);
     if LIMIT < whole {
         return Shares {
             answer: Divided::Past,
-            parts: [0; PLACES],
+            parts: none,
         };
     }
     if whole == 0 {
         return Shares {
             answer: Divided::Given,
-            parts: [0; PLACES],
+            parts: none,
         };
     }
     let parts = share_out(totals, whole);

@@ -23,7 +23,7 @@ use Rattle.totalled.specs.Adding.{leafIn, familyOver, countsOf}
 use Rattle.totalled.specs.Families.{IsFamily}
 use Rattle.totalled.proofs.First.{LowestFrom, first-those}
 use Rattle.totalled.proofs.Bytes.{leaf-bytes}
-use Rattle.totalled.proofs.Families.{one-family, families}
+use Rattle.totalled.proofs.Families.{one-family, is-family, families}
 
 -- ---- a rule that fits a whole leaf
 
@@ -99,12 +99,9 @@ module _ (r : Rules) where
     unfolding familyIn
     first-is = first-those fitsRule 0 mostRules mostRules (omega arith)
 
-    family-in : IsFamily r leaf familyIn
-    family-in = record {
-      within = first-is .within;
-      fits = λ l. rule-fits familyIn (first-is .passes l);
-      lowest = λ k l x. true≢false (sym (fits-rule k x) ∙ first-is .before k (omega arith) l);
-    }
+    family-in : count r ≤ mostRules → IsFamily r leaf familyIn
+    family-in few =
+        is-family few (first-is .within) (λ l. rule-fits familyIn (first-is .passes l)) (λ k l x. true≢false (sym (fits-rule k x) ∙ first-is .before k (omega arith) l))
 
 -- ---- what a profile adds
 
@@ -132,4 +129,4 @@ pub counts-filed : {r : Rules} {b : Five} {n : ℕ} → Tables r b n → n ≤ l
 counts-filed {r} {b} {n} tables lends few profile bytes p = sum-filed _ _ _ (linesOf profile) (λ i l. rw (family-of (leafIn (getD (linesOf profile) i [])) (leaf-bytes profile bytes i)))
   where
     family-of : (leaf : List ℕ) → ByteText leaf → familyOver b n leaf ≡ familyIn r leaf
-    family-of leaf t = one-family r leaf (familyOver b n leaf) (familyIn r leaf) few (families r b n tables lends few leaf t) (family-in r leaf)
+    family-of leaf t = one-family r leaf (familyOver b n leaf) (familyIn r leaf) (families r b n tables lends few leaf t) (family-in r leaf few)

@@ -15,6 +15,7 @@ use Rattle.sets.specs.Sets.{has}
 use Rattle.meaning.specs.Rules.{Rules, count}
 use Rattle.meaning.specs.Standing.{Same, held, live, out}
 use Rattle.meaning.specs.Tables.{Five, columns, Tables}
+use Rattle.meaning.specs.Occurrences.{FitsWhole}
 use Rattle.meaning.proofs.Held.{same-live}
 use Rattle.meaning.proofs.Looks.{row-first, row-held, row-out}
 use Rattle.book.specs.Limits.{mostRules, mostBytes}
@@ -43,16 +44,21 @@ use Rattle.totalled.proofs.First.{lowest-first}
 use Rattle.totalled.proofs.Whole.{both-fits, fits-held, fits-live, fits-out}
 
 pub one-family : OneFamily
-one-family r leaf p q few x y =
+one-family r leaf p q x y =
     elim (order p q) [
       | less l ↦ absurd (y .lowest p l (x .fits (omega (arith, y .within))))
       | equal e ↦ e
       | more l ↦ absurd (x .lowest q l (y .fits (omega (arith, x .within))))
     ]
 
+-- there is no rule past the most
+pub is-family : {r : Rules} {leaf : List ℕ} {p : ℕ} → count r ≤ mostRules → p ≤ unnamed → (p < unnamed → FitsWhole r leaf p) → ((k : ℕ) → k < p → ¬ FitsWhole r leaf k)
+    → IsFamily r leaf p
+is-family few l f g = record { within = l; fits = f; lowest = g; none = λ e k x. g k (omega (arith, x .rule)) x }
+
 -- ---- by the standing of the leaf
 
-module _ (r : Rules) (leaf : List ℕ) where
+module _ (r : Rules) (few : count r ≤ mostRules) (leaf : List ℕ) where
   abbrev read : List ℕ
   read = reverse leaf
 
@@ -63,26 +69,19 @@ module _ (r : Rules) (leaf : List ℕ) where
   whole-held : held r read ≡ length leaf → IsFamily r leaf (lowestOf (live r read) (out r read))
   whole-held h =
       let x = lowest-first (live r read) (out r read) in
-      record {
-        within = x .within;
-        fits = λ l. let (a, b) = and-eq-true-iff (has (live r read) _) (has (out r read) _) .0 (x .passes l) in both-fits r leaf _ h a b;
-        lowest = λ k l f. true≢false (sym (and-eq-true-iff (has (live r read) k) (has (out r read) k) .1 (fits-live r leaf k f, fits-out r leaf k f)) ∙ x .before k (omega arith) l);
-      }
+      is-family few (x .within) (λ l. let (a, b) = and-eq-true-iff (has (live r read) _) (has (out r read) _) .0 (x .passes l) in both-fits r leaf _ h a b)
+      (λ k l f. true≢false (sym (and-eq-true-iff (has (live r read) k) (has (out r read) k) .1 (fits-live r leaf k f, fits-out r leaf k f)) ∙ x .before k (omega arith) l))
 
   standing-family : IsFamily r leaf byStanding
   standing-family = go (eqb (held r read) (length leaf)) refl
     where
       go : (t : Bool) → eqb (held r read) (length leaf) ≡ t → IsFamily r leaf (cond t (lowestOf (live r read) (out r read)) unnamed)
       go true e = whole-held (eqb-true (held r read) (length leaf) e)
-      go false e = record {
-        within = omega arith;
-        fits = λ l. absurd (omega arith);
-        lowest = λ k l f. eqb-false (held r read) (length leaf) e (fits-held r leaf k f);
-      }
+      go false e = is-family few (omega arith) (λ l. absurd (omega arith)) (λ k l f. eqb-false (held r read) (length leaf) e (fits-held r leaf k f))
 
 -- ---- over the tables of rules
 
-module _ {r : Rules} {b : Five} {n : ℕ} (tables : Tables r b n) (lends : n ≤ lent b) where
+module _ {r : Rules} {b : Five} {n : ℕ} (tables : Tables r b n) (lends : n ≤ lent b) (few : count r ≤ mostRules) where
   abbrev moving : ℕ → ℕ → Moved
   moving = moveOf (b .goto) (b .fall) n
 
@@ -103,14 +102,14 @@ module _ {r : Rules} {b : Five} {n : ℕ} (tables : Tables r b n) (lends : n ≤
   row-live : {t : List ℕ} {e : ℕ} → IsRow (Same r) (tables .texts) t e → columns b .live e ≡ live r t
   row-live x = tables .numbers .live-is _ (x .below) ∙ sym (same-live (x .same))
 
-  family-is : (leaf : List ℕ) → ByteText leaf → familyOver b n leaf ≡ byStanding r leaf
+  family-is : (leaf : List ℕ) → ByteText leaf → familyOver b n leaf ≡ byStanding r few leaf
   unfolding familyAt
   family-is leaf bytes =
       let (e, q, x) = end-row leaf bytes in
       q (λ row. familyAt (b .held) (b .live) (b .out) row (length leaf)) (λ at. unnamed) ∙ rw (row-held tables x, row-live x, row-out tables x)
 
 pub families : Families
-families r b n tables lends few leaf bytes = rw (family-is tables lends leaf bytes) (standing-family r leaf)
+families r b n tables lends few leaf bytes = rw (family-is tables lends few leaf bytes) (standing-family r few leaf)
 
 -- ---- from a book's bytes
 

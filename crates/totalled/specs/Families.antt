@@ -28,10 +28,11 @@ pub record IsFamily (r : Rules) (leaf : List ℕ) (p : ℕ) : Type 0 where
   pub within : p ≤ unnamed
   pub fits : p < unnamed → FitsWhole r leaf p
   pub lowest : (k : ℕ) → k < p → ¬ FitsWhole r leaf k
+  pub none : p ≡ unnamed → (k : ℕ) → ¬ FitsWhole r leaf k
 
 -- it is one
 abbrev pub OneFamily : Type 0
-OneFamily = (r : Rules) (leaf : List ℕ) (p q : ℕ) → count r ≤ mostRules → IsFamily r leaf p → IsFamily r leaf q → p ≡ q
+OneFamily = (r : Rules) (leaf : List ℕ) (p q : ℕ) → IsFamily r leaf p → IsFamily r leaf q → p ≡ q
 
 -- Over the tables of the rules.
 abbrev pub Families : Type 0

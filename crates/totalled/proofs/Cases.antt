@@ -1,7 +1,7 @@
 -- Leaf totals by numbers: where each line's count goes is computed from the book's rules, and the theorems say the rest. Assumes nothing.
 use mathlib.Core.Bool.{Bool, true, false, _&&_, and-eq-true-iff}
 use mathlib.Core.List.{List, [], _∷_, _++_}
-use mathlib.Core.Logic.{_≢_}
+use mathlib.Core.Logic.{_⊎_, inl, inr, _≢_}
 use mathlib.Core.Path.{_≡_, refl, sym, subst, _∙_}
 use Prim.Native.Nat.{ℕ, zero, suc, _+_, _≤_, _<_}
 use native.Mathlib.Omega.{arith}
@@ -33,12 +33,13 @@ use Rattle.shares.proofs.Demands.{demands}
 use Rattle.leaves.specs.declared.LeafTotals.{LeafTotals}
 use Rattle.leaves.specs.Totals.{mostProfiles, totalAt, totalsIn, wholeIn, emptyTotals}
 use Rattle.totalled.specs.Adding.{AddCall, recordLeft, AddAnswers, Begins}
-use Rattle.totalled.specs.Cases.{fourRules, sixLeaves, threeLeaves, b-1, b-2, ab-01, fourTotals, adds, refuses, breaks, full, AddedSo, RefusedSo, LeafHolds, none, also, LeafCasesHold}
+use Rattle.totalled.specs.Cases.{fourRules, sixLeaves, threeLeaves, b-1, b-2, ab-01, fourTotals, adds, refuses, breaks, full, long, rows, AddedSo, RefusedSo, LeafHolds, none, also, LeafCasesHold}
 use Rattle.totalled.proofs.Adding.{add-refuses}
 use Rattle.totalled.proofs.Families.{begins, none-fails}
 use Rattle.totalled.proofs.Computed.{fitsAll, familyIn, Filed, filed, filedAt, counts-filed}
 use Rattle.totalled.proofs.Rounded.{AtEnds, whole-is}
 use Rattle.totalled.proofs.Shared.{SharesAre, shares-41, shares-9, shares-50, shares-limit, shares-1}
+use Rattle.totalled.proofs.OneRow.{lost-at-0, lost-at-3, not-met, empty-named, one-byte, many-bytes}
 use Rattle.totalled.proofs.Four.{totalsAre, FourOf, four-first, at-ends, four-shares}
 
 -- ---- the book
@@ -176,6 +177,22 @@ filling b n profile old e =
     let a = add-refuses w .full (omega arith) in
     record { answers = a; unaltered = add-refuses w .unaltered (λ z. omega (arith, a .number-is, z)) }
 
+longer : LeafHolds (long 1048577 11 1048576)
+longer b n profile old e room =
+    let w : AddCall = record { tables = b; n = n; profile = profile; old = old } in
+    let a = add-refuses w .too-long room (omega arith) in
+    record { answers = a; unaltered = add-refuses w .unaltered (λ z. omega (arith, a .number-is, z)) }
+
+rowless : (n : ℕ) → LeafHolds (rows n 12 n)
+rowless n b profile old e short room =
+    let w : AddCall = record { tables = b; n = n; profile = profile; old = old } in
+    let a = add-refuses w .bad-rows room short (none-of n) in
+    record { answers = a; unaltered = add-refuses w .unaltered (λ z. omega (arith, a .number-is, z)) }
+  where
+    none-of : (n : ℕ) → (n ≡ 0) ⊎ (lent b < n)
+    none-of zero = inl refl
+    none-of (suc n) = inr (omega arith)
+
 -- the first line, and the second
 first-broken : FirstBroken (linesOf ab-01) 0
 unfolding split lastFrom numberFrom countOf lineOf
@@ -205,4 +222,13 @@ leaf-cases =
     (also filling
     (also (breaking ab-01 (omega arith) first-broken)
     (also (breaking (b-2 ++ 10 ∷ ab-01) (omega arith) second-broken)
-    none))))))))
+    (also longer
+    (also (rowless 0)
+    (also (rowless 1)
+    (also lost-at-0
+    (also lost-at-3
+    (also not-met
+    (also empty-named
+    (also one-byte
+    (also many-bytes
+    none)))))))))))))))))

@@ -3,9 +3,9 @@ use mathlib.Core.List.{List, [], _∷_, _++_}
 use mathlib.Core.Logic.{_≢_}
 use mathlib.Core.Path.{_≡_}
 use Prim.Native.Nat.{ℕ, _≤_, _<_}
-use lib.ListN.{getD, replicate}
+use lib.ListN.{length, getD, replicate}
 use Rattle.meaning.specs.Tables.{Five}
-use Rattle.lent.specs.Lent.{lent}
+use Rattle.lent.specs.Lent.{five, lent}
 use Rattle.promised.specs.Promise.{numberOf as numberBuilt, valueOf as valueBuilt, Promise}
 use Rattle.promised.specs.declared.Built.{Built}
 use Rattle.shares.specs.Shares.{numberOf as numberShared, valueOf as valueShared}
@@ -51,6 +51,29 @@ b-2 = 98 ∷ 32 ∷ 50 ∷ []
 abbrev pub ab-01 : List ℕ
 ab-01 = 97 ∷ 98 ∷ 32 ∷ 48 ∷ 49 ∷ []
 
+-- `a 1`; `b;xa 1`; `a;b 1`, whose leaf has no `a`; `; 5`, whose leaf is empty
+abbrev pub a-1 : List ℕ
+a-1 = 97 ∷ 32 ∷ 49 ∷ []
+
+abbrev pub b-xa-1 : List ℕ
+b-xa-1 = 98 ∷ 59 ∷ 120 ∷ 97 ∷ 32 ∷ 49 ∷ []
+
+abbrev pub a-b-1 : List ℕ
+a-b-1 = 97 ∷ 59 ∷ 98 ∷ 32 ∷ 49 ∷ []
+
+abbrev pub empty-5 : List ℕ
+empty-5 = 59 ∷ 32 ∷ 53 ∷ []
+
+-- a leaf of 257 times `b`, and the count 1
+abbrev pub b257-1 : List ℕ
+b257-1 = replicate 257 98 ++ 32 ∷ 49 ∷ []
+
+-- ---- tables that no build left
+
+-- one row of zeros, but for its entry at `a`, its held length, and its live and its out, which are the same set
+abbrev pub oneRow : ℕ → ℕ → ℕ → Five
+oneRow entry held set = five (replicate 97 0 ++ entry ∷ replicate 158 0) (0 ∷ []) (held ∷ []) (set ∷ 0 ∷ 0 ∷ 0 ∷ []) (set ∷ 0 ∷ 0 ∷ 0 ∷ [])
+
 -- ---- records
 
 -- one with these totals in its first four places, and 0 in the others
@@ -70,6 +93,15 @@ pub data LeafCase : Type 0 where
   -- how many profiles a record has; the number and the value of the refusal, whatever else is handed over: also a profile that is too long or has a line that
   -- breaks the rules, and rows that are none or not lent
   full : ℕ → ℕ → ℕ → LeafCase
+  -- how many bytes a profile has; the number and the value of the refusal, whatever else is handed over, if the record is not full
+  long : ℕ → ℕ → ℕ → LeafCase
+  -- how many rows are asked for, of tables that lend none; the number and the value of the refusal of any profile that is not too long for any record that is
+  -- not full
+  rows : ℕ → ℕ → ℕ → LeafCase
+  -- one row and a profile; the number and the value of the refusal for any record that is not full
+  loses : Five → List ℕ → ℕ → ℕ → LeafCase
+  -- one row and a profile; the first total and unnamed after it is added to an empty record
+  credits : Five → List ℕ → ℕ → ℕ → LeafCase
 
 abbrev pub leafCases : List LeafCase
 leafCases =
@@ -88,6 +120,19 @@ leafCases =
     -- a count with a zero in front, on the first line and on the second
     ∷ breaks ab-01 15 0
     ∷ breaks (b-2 ++ 10 ∷ ab-01) 15 4
+    -- a byte too many, and no rows
+    ∷ long 1048577 11 1048576
+    ∷ rows 0 12 0
+    ∷ rows 1 12 1
+    -- an entry that no build writes, in a leaf; the offset is that in the profile
+    ∷ loses (oneRow 65535 0 0) a-1 13 0
+    ∷ loses (oneRow 65535 0 0) b-xa-1 13 3
+    -- in another frame it is not met
+    ∷ credits (oneRow 65535 0 0) a-b-1 0 1
+    -- over such tables an empty leaf may have a family, and a leaf of 257 bytes is not one of 1
+    ∷ credits (oneRow 0 0 1) empty-5 5 0
+    ∷ credits (oneRow 0 1 1) b-1 1 0
+    ∷ credits (oneRow 0 1 1) b257-1 0 1
     ∷ []
 
 -- ---- what it says
@@ -107,6 +152,12 @@ pub record RefusedSo (w : AddCall) (number value : ℕ) : Type 0 where
   pub answers : AddAnswers w number value
   pub unaltered : recordLeft w ≡ w .old
 
+-- it is accepted, and these are the first total and unnamed after it
+pub record CreditedSo (w : AddCall) (first unnamed : ℕ) : Type 0 where
+  pub answers : AddAnswers w 0 0
+  pub first-is : getD (recordLeft w .totals) 0 0 ≡ first
+  pub unnamed-is : recordLeft w .unnamed ≡ unnamed
+
 -- The book's tables: whatever buffers a build of it left which gave 0, with the value that it gave. Any tables: with some rows that are lent.
 abbrev pub LeafHolds : LeafCase → Type 0
 LeafHolds (adds profile old totals unnamed profiles shares rest) = (found b : Five) (x : Built) → Promise fourRules found b x → numberBuilt x ≡ 0
@@ -117,6 +168,12 @@ LeafHolds (breaks profile number value) = (b : Five) (n : ℕ) (old : LeafTotals
     → RefusedSo (record { tables = b; n = n; profile = profile; old = old }) number value
 LeafHolds (full profiles number value) = (b : Five) (n : ℕ) (profile : List ℕ) (old : LeafTotals) → old .profiles ≡ profiles
     → RefusedSo (record { tables = b; n = n; profile = profile; old = old }) number value
+LeafHolds (long bytes number value) = (b : Five) (n : ℕ) (profile : List ℕ) (old : LeafTotals) → length profile ≡ bytes → old .profiles < 1024
+    → RefusedSo (record { tables = b; n = n; profile = profile; old = old }) number value
+LeafHolds (rows n number value) = (b : Five) (profile : List ℕ) (old : LeafTotals) → lent b ≡ 0 → length profile ≤ 1048576 → old .profiles < 1024
+    → RefusedSo (record { tables = b; n = n; profile = profile; old = old }) number value
+LeafHolds (loses b profile number value) = (old : LeafTotals) → old .profiles < 1024 → RefusedSo (record { tables = b; n = 1; profile = profile; old = old }) number value
+LeafHolds (credits b profile first unnamed) = CreditedSo (record { tables = b; n = 1; profile = profile; old = emptyTotals }) first unnamed
 
 pub data AllLeafCases : List LeafCase → Type 0 where
   none : AllLeafCases []

@@ -18,13 +18,14 @@ use Rattle.shares.specs.Below.{sumBelow}
 use Rattle.shares.specs.Shares.{allPlaces, limit, tabulate, amountAt, totalOf}
 use Rattle.shares.proofs.Below.{sum-same}
 use Rattle.shares.proofs.Tables.{length-table, getD-table, is-table}
-use Rattle.leaves.specs.declared.LeafTotals.{LeafTotals}
-use Rattle.leaves.specs.declared.Totalled.{Totalled}
-use Rattle.leaves.specs.declared.Totalled.the-variants.{Accepted, Full, TooLong, BadRows, BadLine, Damaged, Past}
+use Rattle.leaf_totals.specs.declared.LeafTotals.{LeafTotals}
+use Rattle.leaf_totals.specs.declared.Totalled.{Totalled}
+use Rattle.leaf_totals.specs.declared.Totalled.the-variants.{Accepted, Full, TooLong, BadRows, BadLine, Damaged, Past}
 use Rattle.leaves.specs.declared.Handed.{Handed}
 use Rattle.leaves.specs.declared.Parts.{Parts}
 use Rattle.leaf.specs.Leaf.{unnamed}
-use Rattle.leaves.specs.Totals.{leavesPass, profileAdds, mostProfiles, totalAt, wholeIn, withParts, afterPass, addAnswer, recordAfter, addOf}
+use Rattle.leaf_totals.specs.Record.{mostProfiles, totalAt, wholeIn}
+use Rattle.leaves.specs.Totals.{leavesPass, profileAdds, withParts, afterPass, addAnswer, recordAfter, addOf}
 use Rattle.leaves.specs.Steps.{CountedLines, grown, onParts, merged}
 use Rattle.leaves.proofs.EachPlace.{adds-to-counts}
 

@@ -1,34 +1,22 @@
--- Laws of the record: what stands at a place, and what was counted joins it. Assumes nothing.
+-- Laws of the record with parts more, and of what was counted and joins it. Assumes nothing.
 use mathlib.Core.List.{List}
 use mathlib.Core.Path.{_≡_}
 use Prim.Native.Nat.{ℕ, _+_, _≤_, _<_, min}
 use native.Mathlib.Omega.{arith}
 use borrow.Author.Tests.{lt-ltb, le-ltb}
-use lib.ListN.{getD, set}
 use Rattle.book.specs.Limits.{mostRules}
 use Rattle.lines.specs.declared.Pass.the-variants.{Through, Ends}
-use Rattle.shares.specs.Shares.{allPlaces, limit, tabulate, amountAt, totalOf}
+use Rattle.leaf_totals.proofs.Places.{total-le}
+use Rattle.shares.specs.Shares.{allPlaces, limit, amountAt, totalOf}
 use Rattle.shares.proofs.Below.{sum-at}
-use Rattle.shares.proofs.Tables.{getD-table, Filled, filled-next, filled-all}
-use Rattle.leaves.specs.declared.LeafTotals.{LeafTotals}
-use Rattle.leaves.specs.declared.Totalled.the-variants.{Accepted, Damaged, Past}
+use Rattle.shares.proofs.Tables.{Filled, filled-all}
+use Rattle.leaf_totals.specs.declared.LeafTotals.{LeafTotals}
+use Rattle.leaf_totals.specs.declared.Totalled.the-variants.{Accepted, Damaged, Past}
 use Rattle.leaves.specs.declared.Parts.{Parts}
 use Rattle.leaf.specs.Leaf.{unnamed}
-use Rattle.leaves.specs.Totals.{mostProfiles, totalAt, totalsIn, wholeIn, withParts}
+use Rattle.leaf_totals.specs.Record.{mostProfiles, totalAt, totalsIn, wholeIn}
+use Rattle.leaves.specs.Totals.{withParts}
 use Rattle.leaves.specs.Steps.{Joins, merged}
-
--- ---- places
-
-pub total-family : (t : LeafTotals) (k : ℕ) → k < unnamed → totalAt t k ≡ getD (t .totals) k 0
-total-family t k h = rw (lt-ltb k unnamed h)
-
--- a list that is filled with its last place
-pub filled-end : {f : ℕ → ℕ} {n i k x : ℕ} {l : List ℕ} → i ≡ k → k + 1 ≡ n → x ≡ f k → Filled f n i l → set l k x ≡ tabulate n f
-filled-end e s d w = filled-all (filled-next (omega arith) d (rw e at w)) s
-
--- no total is larger than that of the record
-pub total-le : (t : LeafTotals) (p : ℕ) → p < allPlaces → totalAt t p ≤ wholeIn t
-total-le t p h = omega (arith, getD-table allPlaces (totalAt t) p 0 h, sum-at (amountAt (totalsIn t)) allPlaces p h)
 
 -- the totals with their parts, all filled in
 pub with-filled : (t : LeafTotals) (parts : List ℕ) {i : ℕ} {totals : List ℕ} → Filled (λ k. totalAt t k + amountAt parts k) mostRules i totals → i ≡ mostRules

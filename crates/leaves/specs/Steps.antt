@@ -8,12 +8,13 @@ use Rattle.meaning.specs.Tables.{Five}
 use Rattle.lines.specs.declared.Pass.{Pass}
 use Rattle.lines.specs.declared.Pass.the-variants.{Through, Ends}
 use Rattle.shares.specs.Shares.{allPlaces, limit, tabulate, amountAt, totalOf}
-use Rattle.leaves.specs.declared.LeafTotals.{LeafTotals}
-use Rattle.leaves.specs.declared.Totalled.{Totalled}
-use Rattle.leaves.specs.declared.Totalled.the-variants.{Accepted, Damaged, Past}
+use Rattle.leaf_totals.specs.declared.LeafTotals.{LeafTotals}
+use Rattle.leaf_totals.specs.declared.Totalled.{Totalled}
+use Rattle.leaf_totals.specs.declared.Totalled.the-variants.{Accepted, Damaged, Past}
 use Rattle.leaves.specs.declared.Handed.{Handed}
 use Rattle.leaves.specs.declared.Parts.{Parts}
-use Rattle.leaves.specs.Totals.{leavesPass, profileAdds, mostProfiles, totalAt, wholeIn, withParts}
+use Rattle.leaf_totals.specs.Record.{mostProfiles, totalAt, wholeIn}
+use Rattle.leaves.specs.Totals.{leavesPass, profileAdds, withParts}
 
 -- a pass over a profile's leaves, and, where it gets through, what the profile adds to each place
 pub record CountedLines (b : Five) (n : ℕ) (profile : List ℕ) (r : Parts) : Type 0 where

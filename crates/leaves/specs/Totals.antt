@@ -3,7 +3,7 @@ use mathlib.Core.Bool.{cond}
 use mathlib.Core.List.{List}
 use Prim.Native.Nat.{ℕ, _+_}
 use lib.Dec.{leb, ltb, eqb}
-use lib.ListN.{length, getD, replicate}
+use lib.ListN.{length}
 use Rattle.sets.specs.Sums.{sumOver}
 use Rattle.meaning.specs.Tables.{Five}
 use Rattle.book.specs.Limits.{mostRules, mostBytes}
@@ -13,10 +13,11 @@ use Rattle.lines.specs.declared.Pass.the-variants.{Through, Ends}
 use Rattle.lines.specs.Lines.{linesOf, passOver, checkOf}
 use Rattle.lines.specs.Profile.{counts}
 use Rattle.shares.specs.declared.Shares.{Shares}
-use Rattle.shares.specs.Shares.{allPlaces, limit, tabulate, totalOf, sharesOf}
-use Rattle.leaves.specs.declared.LeafTotals.{LeafTotals}
-use Rattle.leaves.specs.declared.Totalled.{Totalled}
-use Rattle.leaves.specs.declared.Totalled.the-variants.{Accepted, Full, TooLong, BadRows, BadLine, Damaged, Past}
+use Rattle.shares.specs.Shares.{limit, tabulate, sharesOf}
+use Rattle.leaf_totals.specs.declared.LeafTotals.{LeafTotals}
+use Rattle.leaf_totals.specs.declared.Totalled.{Totalled}
+use Rattle.leaf_totals.specs.declared.Totalled.the-variants.{Accepted, Full, TooLong, BadRows, BadLine, Damaged, Past}
+use Rattle.leaf_totals.specs.Record.{mostProfiles, totalAt, totalsIn, wholeIn}
 use Rattle.leaves.specs.declared.Handed.{Handed}
 use Rattle.leaf.specs.Leaf.{unnamed, lineLeaf, onLeaf}
 
@@ -39,26 +40,6 @@ module _ (b : Five) (n : ℕ) where
   profileAdds p profile = sumOver (lineAdds p) (linesOf profile)
 
 -- ---- the record
-
--- the most profiles of a record
-abbrev pub mostProfiles : ℕ
-mostProfiles = 1024
-
--- what the record has at place p: the total of rule p's family, and unnamed last
-abbrev pub totalAt : LeafTotals → ℕ → ℕ
-totalAt t p = cond (ltb p unnamed) (getD (t .totals) p 0) (t .unnamed)
-
--- all of its totals, unnamed last
-abbrev pub totalsIn : LeafTotals → List ℕ
-totalsIn t = tabulate allPlaces (totalAt t)
-
--- the record's total
-abbrev pub wholeIn : LeafTotals → ℕ
-wholeIn t = totalOf (totalsIn t)
-
--- nothing counted
-abbrev pub emptyTotals : LeafTotals
-emptyTotals = record { totals = replicate mostRules 0; unnamed = 0; profiles = 0 }
 
 -- the record with so much more at each place, and one profile more
 unfoldable pub withParts : LeafTotals → (ℕ → ℕ) → LeafTotals
@@ -99,24 +80,3 @@ addOf b n profile t =
 -- The shares of a record: those of its totals, unnamed last.
 abbrev pub sharesIn : LeafTotals → Shares
 sharesIn t = sharesOf (totalsIn t)
-
--- ---- numbers and values
-
--- The paper's number of an answer, and its value.
-abbrev pub numberOf : Totalled → ℕ
-numberOf Accepted = 0
-numberOf Full = 21
-numberOf TooLong = 11
-numberOf (BadRows rows) = 12
-numberOf (BadLine at) = 15
-numberOf (Damaged at) = 13
-numberOf Past = 20
-
-abbrev pub valueOf : Totalled → ℕ
-valueOf Accepted = 0
-valueOf Full = mostProfiles
-valueOf TooLong = mostBytes
-valueOf (BadRows rows) = rows
-valueOf (BadLine at) = at
-valueOf (Damaged at) = at
-valueOf Past = limit

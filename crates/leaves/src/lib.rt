@@ -2,6 +2,9 @@
 
 use book::Book;
 use leaf::Leaf;
+use leaf_totals::LeafTotals;
+use leaf_totals::PROFILES;
+use leaf_totals::Totalled;
 use lines::LF;
 use lines::Pass;
 use shares::LIMIT;
@@ -14,29 +17,9 @@ ghost use Rattle.moments.specs.Moments.{was};
 ghost use Rattle.book.specs.Limits.{mostBytes};
 ghost use Rattle.lent.specs.Lent.{given};
 ghost use Rattle.shares.specs.Shares.{amountAt};
-ghost use Rattle.leaves.specs.Totals.{mostProfiles, totalsIn, emptyTotals, withParts, addOf, sharesIn, numberOf, valueOf};
+ghost use Rattle.leaf_totals.specs.Record.{mostProfiles};
+ghost use Rattle.leaves.specs.Totals.{withParts, addOf, sharesIn};
 ghost use Rattle.leaves.specs.Steps.{CountedLines, Joins, handsBack, merged};
-
-// The most profiles of a record.
-const PROFILES: usize = 1024;
-
-// The totals of 256 families and of unnamed, and how many profiles they are of.
-pub struct LeafTotals {
-    pub totals: [u64; Book::RULES],
-    pub unnamed: u64,
-    pub profiles: usize,
-}
-
-// The answer of `add`. `numberOf` and `valueOf` of specs/ give each case's number and value.
-pub enum Totalled {
-    Accepted,
-    Full,
-    TooLong,
-    BadRows { rows: usize },
-    BadLine { at: usize },
-    Damaged { at: usize },
-    Past,
-}
 
 // The answer beside the record.
 pub struct Handed {
@@ -48,52 +31,6 @@ pub struct Handed {
 struct Parts {
     pass: Pass,
     parts: [u64; PLACES],
-}
-
-impl LeafTotals {
-    // Nothing counted.
-    pub fn empty() -> LeafTotals
-        ensures { λ r. ⌜ r ≡ emptyTotals ⌝ }
-        ensures { λ _. do ⌜ (← ⟦PROFILES⟧ .entry) ≡ mostProfiles ⌝ }
-    {
-        LeafTotals {
-            totals: [0; Book::RULES],
-            unnamed: 0,
-            profiles: 0,
-        }
-    }
-}
-
-impl Totalled {
-    // The paper's number of an answer.
-    pub fn number(self) -> usize
-        ensures { λ r. ⌜ r ≡ numberOf self ⌝ }
-    {
-        match self {
-            Totalled::Accepted => 0,
-            Totalled::Full => 21,
-            Totalled::TooLong => 11,
-            Totalled::BadRows { rows: _ } => 12,
-            Totalled::BadLine { at: _ } => 15,
-            Totalled::Damaged { at: _ } => 13,
-            Totalled::Past => 20,
-        }
-    }
-
-    // Its value.
-    pub fn value(self) -> u64
-        ensures { λ r. ⌜ r ≡ valueOf self ⌝ }
-    {
-        match self {
-            Totalled::Accepted => 0,
-            Totalled::Full => PROFILES as u64,
-            Totalled::TooLong => Book::TEXT as u64,
-            Totalled::BadRows { rows } => rows as u64,
-            Totalled::BadLine { at } => at as u64,
-            Totalled::Damaged { at } => at as u64,
-            Totalled::Past => LIMIT,
-        }
-    }
 }
 
 // ---- a profile
@@ -136,20 +73,6 @@ fn count_lines(
 
 // ---- the record
 
-// All totals of a record, unnamed last.
-fn totals_of(old: LeafTotals) -> [u64; PLACES]
-    ensures { λ r. ⌜ r ≡ totalsIn old ⌝ }
-{
-    let mut all: [u64; PLACES] = [0; PLACES];
-    let mut i: usize = 0;
-    while i < Book::RULES {
-        all[i] = old.totals[i];
-        i += 1;
-    }
-    all[Book::RULES] = old.unnamed;
-    all
-}
-
 // The record with the parts of one profile more.
 fn with_parts(old: LeafTotals, parts: &[u64; PLACES]) -> LeafTotals
     requires { ⌜ Joins old (now parts) ⌝ }
@@ -184,7 +107,7 @@ fn merge(counted: Parts, old: LeafTotals) -> Handed
     match pass {
         Pass::Ends { at } => refused(Totalled::Damaged { at }, old),
         Pass::Through => {
-            let before = shares::total(&totals_of(old));
+            let before = shares::total(&leaf_totals::totals_of(old));
             let more = shares::total(&counted.parts);
             if LIMIT < before + more {
                 return refused(Totalled::Past, old);
@@ -234,5 +157,5 @@ pub fn add(
 pub fn shares_of(old: LeafTotals) -> Shares
     ensures { λ r. ⌜ r ≡ sharesIn old ⌝ }
 {
-    shares::share(&totals_of(old))
+    shares::share(&leaf_totals::totals_of(old))
 }

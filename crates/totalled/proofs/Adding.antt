@@ -20,10 +20,12 @@ use Rattle.lines.specs.Profile.{AllSound, countIn, counts}
 use Rattle.lines.proofs.First.{checked, broken-at}
 use Rattle.shares.specs.Shares.{allPlaces, limit}
 use Rattle.shares.proofs.Demands.{demands}
-use Rattle.leaves.specs.declared.LeafTotals.{LeafTotals}
-use Rattle.leaves.specs.declared.Totalled.{Totalled}
-use Rattle.leaves.specs.declared.Totalled.the-variants.{Accepted, Full, TooLong, BadRows, BadLine, Damaged, Past}
-use Rattle.leaves.specs.Totals.{leafPass, leavesPass, lineAdds, profileAdds, mostProfiles, totalAt, totalsIn, wholeIn, withParts, afterPass, addAnswer, recordAfter, numberOf, valueOf}
+use Rattle.leaf_totals.specs.declared.LeafTotals.{LeafTotals}
+use Rattle.leaf_totals.specs.declared.Totalled.{Totalled}
+use Rattle.leaf_totals.specs.declared.Totalled.the-variants.{Accepted, Full, TooLong, BadRows, BadLine, Damaged, Past}
+use Rattle.leaf_totals.specs.Record.{mostProfiles, totalAt, totalsIn, wholeIn}
+use Rattle.leaf_totals.specs.Totalled.{numberOf, valueOf}
+use Rattle.leaves.specs.Totals.{leafPass, leavesPass, lineAdds, profileAdds, withParts, afterPass, addAnswer, recordAfter}
 use Rattle.leaves.proofs.EachPlace.{both-through, adds-to-counts}
 use Rattle.totalled.specs.Adding.{AddCall, comesTo, recordLeft, AddAnswers, leafIn, familyOver, countsOf, Begins, AddRefuses, AddsUp, callOf, start, next, RunsAddUp, SharesFair}
 use Rattle.totalled.proofs.Leaves.{line-adds-is}

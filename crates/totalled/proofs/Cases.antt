@@ -30,8 +30,8 @@ use Rattle.listed.proofs.Whole.{built}
 use Rattle.shares.specs.Below.{sumBelow}
 use Rattle.shares.specs.Shares.{limit, tabulate}
 use Rattle.shares.proofs.Demands.{demands}
-use Rattle.leaves.specs.declared.LeafTotals.{LeafTotals}
-use Rattle.leaves.specs.Totals.{mostProfiles, totalAt, totalsIn, wholeIn, emptyTotals}
+use Rattle.leaf_totals.specs.declared.LeafTotals.{LeafTotals}
+use Rattle.leaf_totals.specs.Record.{mostProfiles, totalAt, totalsIn, wholeIn, emptyTotals}
 use Rattle.totalled.specs.Adding.{AddCall, recordLeft, AddAnswers, Begins}
 use Rattle.totalled.specs.Cases.{fourRules, sixLeaves, threeLeaves, b-1, b-2, ab-01, fourTotals, adds, refuses, breaks, full, long, rows, AddedSo, RefusedSo, LeafHolds, none, also, LeafCasesHold}
 use Rattle.totalled.proofs.Adding.{add-refuses}

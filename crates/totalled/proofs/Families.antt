@@ -35,7 +35,8 @@ use Rattle.one_byte.specs.Move.{moveOf}
 use Rattle.listed.proofs.Demands.{moves, matches}
 use Rattle.listed.proofs.Whole.{built}
 use Rattle.leaf.specs.Leaf.{endFrom, endOf, onEnd, unnamed, lowestOf, familyAt}
-use Rattle.leaves.specs.Totals.{mostProfiles, wholeIn, numberOf}
+use Rattle.leaf_totals.specs.Record.{mostProfiles, wholeIn}
+use Rattle.leaf_totals.specs.Totalled.{numberOf}
 use Rattle.totalled.specs.Adding.{AddCall, comesTo, AddAnswers, lineAt, leafIn, NoneFails, familyOver, Begins, AddRefusals}
 use Rattle.totalled.specs.Families.{IsFamily, OneFamily, Families, Named, Names}
 use Rattle.totalled.proofs.Adding.{add-refuses}

@@ -10,8 +10,8 @@ use borrow.Author.Tests.{lt-ltb}
 use Rattle.shares.specs.Shares.{allPlaces, amountAt}
 use Rattle.shares.specs.Demands.{share}
 use Rattle.shares.proofs.Tables.{getD-table}
-use Rattle.leaves.specs.declared.LeafTotals.{LeafTotals}
-use Rattle.leaves.specs.Totals.{totalAt, totalsIn}
+use Rattle.leaf_totals.specs.declared.LeafTotals.{LeafTotals}
+use Rattle.leaf_totals.specs.Record.{totalAt, totalsIn}
 use Rattle.totalled.proofs.Rounded.{AtEnds, none-between}
 use Rattle.totalled.proofs.Shared.{SharesAre}
 

@@ -20,7 +20,8 @@ use Rattle.lines.specs.Profile.{AllSound}
 use Rattle.shares.specs.Below.{sumBelow}
 use Rattle.shares.specs.Shares.{tabulate}
 use Rattle.leaf.specs.Leaf.{endFrom, endOf, lowestOf, familyAt, stackLeaf, lineLeaf}
-use Rattle.leaves.specs.Totals.{leafPass, leavesPass, lineAdds, profileAdds, emptyTotals, withParts, addAnswer}
+use Rattle.leaf_totals.specs.Record.{emptyTotals}
+use Rattle.leaves.specs.Totals.{leafPass, leavesPass, lineAdds, profileAdds, withParts, addAnswer}
 use Rattle.totalled.specs.Adding.{AddCall, leafFrom, FirstFails, Begins}
 use Rattle.totalled.specs.Cases.{a-1, b-xa-1, a-b-1, empty-5, b-1, b257-1, oneRow, loses, credits, LeafHolds}
 use Rattle.totalled.proofs.Adding.{add-refuses}

@@ -12,9 +12,10 @@ use Rattle.shares.specs.Below.{sumBelow}
 use Rattle.shares.specs.Shares.{allPlaces, tabulate, amountAt}
 use Rattle.shares.proofs.Below.{sum-next, sum-same, sum-plus}
 use Rattle.shares.proofs.Tables.{getD-table, getD-zeros}
-use Rattle.leaves.specs.declared.LeafTotals.{LeafTotals}
+use Rattle.leaf_totals.specs.declared.LeafTotals.{LeafTotals}
 use Rattle.leaf.specs.Leaf.{unnamed}
-use Rattle.leaves.specs.Totals.{totalAt, totalsIn, wholeIn, emptyTotals, withParts}
+use Rattle.leaf_totals.specs.Record.{totalAt, totalsIn, wholeIn, emptyTotals}
+use Rattle.leaves.specs.Totals.{withParts}
 use Rattle.leaves.proofs.EachPlace.{zeros-below}
 use Rattle.totalled.specs.Adding.{WholeIs}
 

@@ -20,10 +20,12 @@ use Rattle.lines.specs.Profile.{AllSound, FirstBroken, framesIn, countIn, count
 use Rattle.shares.specs.Below.{sumBelow}
 use Rattle.shares.specs.Shares.{allPlaces, limit}
 use Rattle.shares.specs.Demands.{Demanded}
-use Rattle.leaves.specs.declared.LeafTotals.{LeafTotals}
+use Rattle.leaf_totals.specs.declared.LeafTotals.{LeafTotals}
 use Rattle.leaves.specs.declared.Handed.{Handed}
 use Rattle.leaf.specs.Leaf.{endOf, onEnd, unnamed, familyAt}
-use Rattle.leaves.specs.Totals.{mostProfiles, totalAt, totalsIn, wholeIn, emptyTotals, addOf, numberOf, valueOf}
+use Rattle.leaf_totals.specs.Record.{mostProfiles, totalAt, totalsIn, wholeIn, emptyTotals}
+use Rattle.leaf_totals.specs.Totalled.{numberOf, valueOf}
+use Rattle.leaves.specs.Totals.{addOf}
 
 -- ---- a call
 

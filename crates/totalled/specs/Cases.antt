@@ -9,8 +9,9 @@ use Rattle.lent.specs.Lent.{five, lent}
 use Rattle.promised.specs.Promise.{numberOf as numberBuilt, valueOf as valueBuilt, Promise}
 use Rattle.promised.specs.declared.Built.{Built}
 use Rattle.shares.specs.Shares.{numberOf as numberShared, valueOf as valueShared}
-use Rattle.leaves.specs.declared.LeafTotals.{LeafTotals}
-use Rattle.leaves.specs.Totals.{emptyTotals, sharesIn}
+use Rattle.leaf_totals.specs.declared.LeafTotals.{LeafTotals}
+use Rattle.leaf_totals.specs.Record.{emptyTotals}
+use Rattle.leaves.specs.Totals.{sharesIn}
 use Rattle.totalled.specs.Adding.{AddCall, recordLeft, AddAnswers}
 
 -- ---- the book

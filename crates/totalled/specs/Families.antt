@@ -18,9 +18,10 @@ use Rattle.promised.specs.declared.Built.{Built}
 use Rattle.lines.specs.Lines.{linesOf}
 use Rattle.lines.specs.Profile.{AllSound, counts}
 use Rattle.shares.specs.Shares.{limit}
-use Rattle.leaves.specs.declared.LeafTotals.{LeafTotals}
+use Rattle.leaf_totals.specs.declared.LeafTotals.{LeafTotals}
 use Rattle.leaf.specs.Leaf.{unnamed}
-use Rattle.leaves.specs.Totals.{mostProfiles, wholeIn, numberOf}
+use Rattle.leaf_totals.specs.Record.{mostProfiles, wholeIn}
+use Rattle.leaf_totals.specs.Totalled.{numberOf}
 use Rattle.totalled.specs.Adding.{comesTo, AddAnswers, familyOver}
 
 -- p is the family of the leaf: the lowest rule that fits the whole of it, and `unnamed` where none does

@@ -7,8 +7,9 @@ use lib.ListN.{getD}
 use Rattle.book.specs.Limits.{mostRules}
 use Rattle.shares.specs.Shares.{amountAt}
 use Rattle.shares.proofs.Tables.{Filled, filled-none, filled-next}
-use Rattle.leaves.specs.Totals.{totalAt}
-use Rattle.leaves.proofs.Records.{total-family, with-filled}
+use Rattle.leaf_totals.specs.Record.{totalAt}
+use Rattle.leaf_totals.proofs.Places.{total-family}
+use Rattle.leaves.proofs.Records.{with-filled}
 use Rattle.leaves.proofs.with_parts.Statement.{statement}
 use Rattle.leaves.proofs.with_parts.Tie as tie
 

@@ -1,4 +1,4 @@
--- `leaves::totals_of` meets its contract: the totals so far are written. Assumes nothing.
+-- `leaf_totals::totals_of` meets its contract: the totals so far are written. Assumes nothing.
 use mathlib.Core.Path.{refl, sym}
 use Prim.Native.Nat.{_≤_, _-_}
 use native.Mathlib.Omega.{arith}
@@ -6,10 +6,10 @@ use borrow.Author.Needs.{needs}
 use Rattle.book.specs.Limits.{mostRules}
 use Rattle.shares.specs.Shares.{allPlaces}
 use Rattle.shares.proofs.Tables.{Filled, filled-none, filled-next}
-use Rattle.leaves.specs.Totals.{totalAt}
-use Rattle.leaves.proofs.Records.{total-family, filled-end}
-use Rattle.leaves.proofs.totals_of.Statement.{statement}
-use Rattle.leaves.proofs.totals_of.Tie as tie
+use Rattle.leaf_totals.specs.Record.{totalAt}
+use Rattle.leaf_totals.proofs.Places.{total-family, filled-end}
+use Rattle.leaf_totals.proofs.totals_of.Statement.{statement}
+use Rattle.leaf_totals.proofs.totals_of.Tie as tie
 
 abbrev Inv-loop : tie.InvT-loop
 Inv-loop old all₀ i₀ all i = (i ≤ mostRules) × Filled (totalAt old) allPlaces i all

@@ -125,20 +125,20 @@ abbrev pub AddsUp : Type 0
 AddsUp = (w : AddCall) → AddAnswers w 0 0 → (wholeIn (recordLeft w) ≡ wholeIn (w .old) + counts (w .profile)) × (wholeIn (recordLeft w) ≤ limit)
 
 -- a profile, with the tables that it is added over
-pub record Week : Type 0 where
+pub record OneProfile : Type 0 where
   pub tables : Five
   pub n : ℕ
   pub profile : List ℕ
 
-abbrev pub callOf : Week → LeafTotals → AddCall
+abbrev pub callOf : OneProfile → LeafTotals → AddCall
 callOf s t = record { tables = s .tables; n = s .n; profile = s .profile; old = t }
 
 -- a run of accepted profiles from an empty record, the latest first, and the record that it comes to
-pub data Run : List Week → LeafTotals → Type 0 where
+pub data Run : List OneProfile → LeafTotals → Type 0 where
   start : Run [] emptyTotals
-  next : {ss : List Week} {t : LeafTotals} (s : Week) → Run ss t → AddAnswers (callOf s t) 0 0 → Run (s ∷ ss) (recordLeft (callOf s t))
+  next : {ss : List OneProfile} {t : LeafTotals} (s : OneProfile) → Run ss t → AddAnswers (callOf s t) 0 0 → Run (s ∷ ss) (recordLeft (callOf s t))
 
-pub record RunTells (ss : List Week) (t : LeafTotals) : Type 0 where
+pub record RunTells (ss : List OneProfile) (t : LeafTotals) : Type 0 where
   -- the total is that of all the lines' counts
   pub whole : wholeIn t ≡ sumOver (λ s. counts (s .profile)) ss
   -- each place has the counts of its lines
@@ -147,7 +147,7 @@ pub record RunTells (ss : List Week) (t : LeafTotals) : Type 0 where
   pub few : length ss ≤ mostProfiles
 
 abbrev pub RunsAddUp : Type 0
-RunsAddUp = (ss : List Week) (t : LeafTotals) → Run ss t → RunTells ss t
+RunsAddUp = (ss : List OneProfile) (t : LeafTotals) → Run ss t → RunTells ss t
 
 -- ---- shares
 

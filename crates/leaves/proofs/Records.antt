@@ -16,7 +16,7 @@ use Rattle.leaves.specs.declared.Parts.{Parts}
 use Rattle.leaf.specs.Leaf.{unnamed}
 use Rattle.leaf_totals.specs.Record.{mostProfiles, totalAt, totalsIn, wholeIn}
 use Rattle.leaves.specs.Totals.{withParts}
-use Rattle.leaves.specs.Steps.{Joins, merged}
+use Rattle.leaves.specs.Steps.{TakesParts, merged}
 
 -- the totals with their parts, all filled in
 pub with-filled : (t : LeafTotals) (parts : List ℕ) {i : ℕ} {totals : List ℕ} → Filled (λ k. totalAt t k + amountAt parts k) mostRules i totals → i ≡ mostRules
@@ -47,5 +47,5 @@ module _ (c : Parts) (t : LeafTotals) where
     unfolding merged
     merged-in h q = rw (e, le-ltb limit (wholeIn t + totalOf (c .parts)) (within h), q)
 
-    pub joins : before + more ≤ limit → t .profiles < mostProfiles → Joins t (c .parts)
+    pub joins : before + more ≤ limit → t .profiles < mostProfiles → TakesParts t (c .parts)
     joins h few = record { few = few; fits = λ p l. omega (arith, within h, total-le t p l, sum-at (amountAt (c .parts)) allPlaces p l) }

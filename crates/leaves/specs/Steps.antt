@@ -22,7 +22,7 @@ pub record CountedLines (b : Five) (n : ℕ) (profile : List ℕ) (r : Parts) : 
   pub parts-are : r .pass ≡ Through → r .parts ≡ tabulate allPlaces (λ p. profileAdds b n p profile)
 
 -- a record that has room for one profile more, and each of its totals for the part
-pub record Joins (t : LeafTotals) (parts : List ℕ) : Type 0 where
+pub record TakesParts (t : LeafTotals) (parts : List ℕ) : Type 0 where
   pub few : t .profiles < mostProfiles
   pub fits : (p : ℕ) → p < allPlaces → totalAt t p + amountAt parts p ≤ limit
 

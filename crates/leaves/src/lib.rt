@@ -19,7 +19,7 @@ ghost use Rattle.lent.specs.Lent.{given};
 ghost use Rattle.shares.specs.Shares.{amountAt};
 ghost use Rattle.leaf_totals.specs.Record.{mostProfiles};
 ghost use Rattle.leaves.specs.Totals.{withParts, addOf, sharesIn};
-ghost use Rattle.leaves.specs.Steps.{CountedLines, Joins, handsBack, merged};
+ghost use Rattle.leaves.specs.Steps.{CountedLines, TakesParts, handsBack, merged};
 
 // The answer beside the record.
 pub struct Handed {
@@ -75,7 +75,7 @@ fn count_lines(
 
 // The record with the parts of one profile more.
 fn with_parts(old: LeafTotals, parts: &[u64; PLACES]) -> LeafTotals
-    requires { ⌜ Joins old (now parts) ⌝ }
+    requires { ⌜ TakesParts old (now parts) ⌝ }
     ensures { λ r. ⌜ r ≡ withParts old (amountAt (was parts)) ⌝ }
 {
     let mut totals: [u64; Book::RULES] = [0; Book::RULES];

@@ -14,13 +14,13 @@ use Rattle.book.specs.Limits.{mostRows}
 use Rattle.build.specs.Course.{numberAt, Stored, Key, Rising, chainOf, chainAt, Newest, Chains}
 use Rattle.build.specs.declared.Placed.the-variants as placed
 use Rattle.build.specs.declared.Filled.the-variants as filled
-use Rattle.build.proofs.Laws.{all-zero}
+use Rattle.sets.proofs.Zeros.{zero-at}
 
 pub chains-start : (m : ℕ) → m ≡ mostRows → (chain : ℕ → ℕ) → Chains (replicate m 0) (replicate m 0) chain 1
 chains-start m e chain = record {
   first-long = length-replicate m 0 ∙ e;
   older-long = length-replicate m 0 ∙ e;
-  heads = λ g. rw (all-zero m g) (record { below = omega arith; same = λ z. absurd (z refl); gap = λ j a b. absurd (omega arith) });
+  heads = λ g. rw (zero-at m g) (record { below = omega arith; same = λ z. absurd (z refl); gap = λ j a b. absurd (omega arith) });
   links = λ i l z. absurd (z (omega arith));
 }
 

@@ -1,6 +1,6 @@
 -- Laws on sets of rules, on the rules of lent arrays and on lists. Assumes nothing.
 use Prim.Native.Nat.{ℕ, zero, suc, _+_, _-_, _*_, _^_, _≤_, _<_, min}
-use mathlib.Core.Path.{_≡_, refl, sym, ap, subst, subst⁻¹, _∙_}
+use mathlib.Core.Path.{_≡_, sym, ap, subst, subst⁻¹, _∙_}
 use mathlib.Core.Bool.{Bool, true, false}
 use mathlib.Core.List.{List, [], _∷_, _++_}
 use native.Mathlib.Nat.{le-of-lt, lt-of-lt-of-le, lt-irrefl, zero-add}
@@ -79,11 +79,6 @@ module _ (symbols lengths picture : List ℕ) (n : ℕ) where
   onward-in h s c q = q ∙ rw (count-in symbols lengths picture n)
 
 -- ---- lists
-
-pub all-zero : (n i : ℕ) → _≡_ {A = ℕ} (getD (replicate n 0) i 0) 0
-all-zero zero i = refl
-all-zero (suc n) zero = refl
-all-zero (suc n) (suc i) = all-zero n i
 
 -- what holds of the entries below i, and of v at i, holds of the entries below i + 1 once v stands at i
 pub below-set : (P : ℕ → ℕ → Type 0) (l : List ℕ) (i v : ℕ) → i < length l → ((k : ℕ) → k < i → P k (getD l k 0)) → P i v

@@ -29,7 +29,7 @@ use Rattle.build.specs.Course.{Others, fiveOf, numberAt, columnsOf, Stor
 use Rattle.promised.specs.declared.Built.{Built as Answer}
 use Rattle.build.specs.declared.Placed.the-variants as placed
 use Rattle.build.specs.declared.Filled.the-variants as filled
-use Rattle.build.proofs.Laws.{all-zero}
+use Rattle.sets.proofs.Zeros.{zero-at}
 use Rattle.build.proofs.Parts.{put-before, put-in, put-after}
 use Rattle.build.proofs.Steps.{stored-number, filling-keeps, filling-room, filling-long}
 use Rattle.build.proofs.Sanity.{Grown, grown, row-length}
@@ -214,10 +214,10 @@ module _ {r : Rules} {lent : ℕ} {goto₀ : List ℕ} {t₀ : Others} (small : 
 
 zero-blanks : (t : Others) → Blanks 0 (zeroOthers t)
 zero-blanks t = record {
-  fall = λ i l. all-zero (length (t .fall)) i;
-  held = λ i l. all-zero (length (t .held)) i;
-  live = λ i l. all-zero (length (t .live)) i;
-  out = λ i l. all-zero (length (t .out)) i;
+  fall = λ i l. zero-at (length (t .fall)) i;
+  held = λ i l. zero-at (length (t .held)) i;
+  live = λ i l. zero-at (length (t .live)) i;
+  out = λ i l. zero-at (length (t .out)) i;
 }
 
 as-long : {n : ℕ} (old : List ℕ) → n ≡ length (zeros old) → n ≡ length old
@@ -230,7 +230,7 @@ none-lent r = elim (rows-or-more r 0) [ inl m ↦ m | inr a ↦ absurd (omega (a
 pub builds-of : {r : Rules} → Short r → (goto : List ℕ) (t : Others) {goto' : List ℕ} {u : Others} {x : Answer} → Makes r goto t goto' u x
     → Builds r (fiveOf goto t) (fiveOf goto' u) (numberOf x) (valueOf x)
 builds-of {r} small goto t (rows ne f) =
-    let (g, k) = accepted-of small (zero-sane goto t ne) (λ i l. all-zero (length goto) i) (zero-blanks t) f in
+    let (g, k) = accepted-of small (zero-sane goto t ne) (λ i l. zero-at (length goto) i) (zero-blanks t) f in
     accepted (g .sane .room .used) (tables-of k)
     (record {
       goto-long = as-long goto (g .long);
@@ -241,4 +241,4 @@ builds-of {r} small goto t (rows ne f) =
     })
 builds-of {r} small goto t (empty z) =
     subst (λ (n : ℕ). Builds r (fiveOf goto t) (zeroed (fiveOf goto t)) 10 n) z (no-room (subst⁻¹ (MoreThan (Same r)) z (none-lent r)))
-builds-of {r} small goto t (refused ne f) = no-room (crowded-of small (zero-sane goto t ne) (λ i l. all-zero (length goto) i) (zero-blanks t) f)
+builds-of {r} small goto t (refused ne f) = no-room (crowded-of small (zero-sane goto t ne) (λ i l. zero-at (length goto) i) (zero-blanks t) f)

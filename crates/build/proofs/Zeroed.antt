@@ -8,7 +8,7 @@ use lib.ListN.{length, replicate, length-replicate}
 use Rattle.meaning.specs.Rules.{Rules}
 use Rattle.lent.specs.Lent.{zeros}
 use Rattle.build.specs.Course.{Others, Sane, AllFilled, rowsLent, zeroOthers, Makes, rows, empty, refused}
-use Rattle.build.proofs.Laws.{all-zero}
+use Rattle.sets.proofs.Zeros.{zero-at}
 use Rattle.build.specs.declared.Filled.the-variants as filled
 use Rattle.promised.specs.declared.Built.the-variants as built
 
@@ -24,10 +24,10 @@ zero-sane goto t ne =
             live-room = rw length-replicate (omega arith);
             out-room = rw length-replicate (omega arith);
           };
-      rows = record { down = λ i h nz. absurd (nz (omega arith)); first = all-zero (length (t .fall)) 0; short-held = λ i h. rw all-zero (omega arith) };
+      rows = record { down = λ i h nz. absurd (nz (omega arith)); first = zero-at (length (t .fall)) 0; short-held = λ i h. rw zero-at (omega arith) };
       goto-room = rw length-replicate (omega arith);
-      entries = λ j. inr (rw all-zero (omega arith));
-      last = λ c h q. omega (arith, all-zero (length goto) c);
+      entries = λ j. inr (rw zero-at (omega arith));
+      last = λ c h q. omega (arith, zero-at (length goto) c);
     }
 
 -- every entry is 0, as `zero_all` promises

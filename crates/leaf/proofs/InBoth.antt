@@ -1,5 +1,5 @@
 -- The lowest rule in two sets: the first of the first word in which both have one. Assumes nothing.
-use Prim.Native.Nat.{ℕ, zero, suc, _+_, _-_, _*_, _/_, _%_, _^_, _≤_, _<_}
+use Prim.Native.Nat.{ℕ, _+_, _-_, _*_, _/_, _%_, _^_, _≤_, _<_}
 use mathlib.Core.Bool.{Bool, true, false, cond, _&&_}
 use mathlib.Core.List.{List, [], _∷_}
 use mathlib.Core.Logic.{_≢_}
@@ -9,35 +9,31 @@ use native.Mathlib.Omega.{arith}
 use lib.Bits.{bitAnd, and-shr, and-mod, and-lt}
 use lib.Dec.{eqb}
 use lib.ListN.{getD}
-use Rattle.sets.specs.Sets.{has, keep, those, members, setOf, plusEach}
+use Rattle.sets.specs.Sets.{has, those, members, setOf, plusEach}
 use Rattle.sets.specs.Table.{rowWords, rulesAt}
 use Rattle.sets.proofs.Laws.{low, digit}
+use Rattle.sets.proofs.First.{LowestFrom, first-those}
 use Rattle.sets.proofs.Members.{those-ext, those-shift, those-append, members-empty, members-cons}
 use Rattle.sets.proofs.InWords.{Words, has-at}
 use Rattle.book.specs.Limits.{mostRules}
 use Rattle.leaf.specs.Leaf.{unnamed, lowestOf, familyAt}
 
--- ---- none is past the rules
+-- whether k is in both
+abbrev inBoth : ℕ → ℕ → ℕ → Bool
+inBoth live out k = has live k && has out k
 
-first-within : (p : ℕ → Bool) (i n d : ℕ) → i + n ≤ d → getD (those p i n) 0 d ≤ d
-unfolding those
-first-within p i zero d h = omega arith
-first-within p i (suc n) d h = go (p i) (first-within p (suc i) n d (omega arith))
-  where
-    go : (t : Bool) → getD (those p (suc i) n) 0 d ≤ d → getD (keep t i (those p (suc i) n)) 0 d ≤ d
-    go true r = omega arith
-    go false r = r
+-- ---- the lowest
 
-pub lowest-within : (live out : ℕ) → lowestOf live out ≤ unnamed
+pub lowest-first : (live out : ℕ) → LowestFrom (inBoth live out) 0 mostRules (lowestOf live out)
 unfolding lowestOf
-lowest-within live out = first-within (λ k. has live k && has out k) 0 mostRules unnamed (omega arith)
+lowest-first live out = first-those (inBoth live out) 0 mostRules mostRules (omega arith)
 
 pub family-within : (held live out : List ℕ) (row size : ℕ) → familyAt held live out row size ≤ unnamed
 unfolding familyAt
 family-within held live out row size = go (eqb (getD held row 0) size)
   where
     go : (t : Bool) → cond t (lowestOf (rulesAt live row) (rulesAt out row)) unnamed ≤ unnamed
-    go true = lowest-within (rulesAt live row) (rulesAt out row)
+    go true = lowest-first (rulesAt live row) (rulesAt out row) .within
     go false = omega arith
 
 -- ---- what is in both of two words
@@ -54,10 +50,6 @@ has-and a b k =
     (x % 2) (low x)
 
 -- ---- word by word
-
--- whether k is in both
-abbrev inBoth : ℕ → ℕ → ℕ → Bool
-inBoth live out k = has live k && has out k
 
 -- the lowest in both from word i on
 unfoldable pub lowestFrom : ℕ → ℕ → ℕ → ℕ

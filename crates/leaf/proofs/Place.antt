@@ -42,6 +42,3 @@ module _ (b : Five) (n : ℕ) where
 
   pub place-within : (line : List ℕ) {place count : ℕ} → lineLeaf b n line ≡ Counts place count → place ≤ unnamed
   place-within line e = (rw e at (line-placed line)) .0
-
-  pub count-placed : (line : List ℕ) {place count : ℕ} → lineLeaf b n line ≡ Counts place count → count ≡ countIn line
-  count-placed line e = (rw e at (line-placed line)) .1

@@ -14,10 +14,8 @@ use Rattle.lines.specs.declared.Pass.{Pass}
 use Rattle.lines.specs.declared.Pass.the-variants.{Through, Ends}
 use Rattle.lines.specs.Lines.{checkOf}
 use Rattle.lines.specs.Profile.{counts}
-use Rattle.shares.specs.Below.{sumBelow}
 use Rattle.shares.specs.Shares.{allPlaces, limit, tabulate, amountAt, totalOf}
-use Rattle.shares.proofs.Below.{sum-same}
-use Rattle.shares.proofs.Tables.{length-table, getD-table, is-table}
+use Rattle.shares.proofs.Tables.{getD-table, tabulate-same, total-tabulate}
 use Rattle.leaf_totals.specs.declared.LeafTotals.{LeafTotals}
 use Rattle.leaf_totals.specs.declared.Totalled.{Totalled}
 use Rattle.leaf_totals.specs.declared.Totalled.the-variants.{Accepted, Full, TooLong, BadRows, BadLine, Damaged, Past}
@@ -30,12 +28,6 @@ use Rattle.leaves.specs.Steps.{CountedLines, grown, onParts, merged}
 use Rattle.leaves.proofs.EachPlace.{adds-to-counts}
 
 -- ---- parts that agree
-
-tabulate-same : (n : ℕ) (f g : ℕ → ℕ) → ((k : ℕ) → k < n → f k ≡ g k) → tabulate n f ≡ tabulate n g
-tabulate-same n f g e = is-table n g (tabulate n f) (length-table n f) (λ k h. getD-table n f k 0 h ∙ e k h)
-
-total-tabulate : (f : ℕ → ℕ) → totalOf (tabulate allPlaces f) ≡ sumBelow f allPlaces
-total-tabulate f = sum-same (amountAt (tabulate allPlaces f)) f allPlaces (λ p h. getD-table allPlaces f p 0 h)
 
 with-same : (t : LeafTotals) (f : ℕ → ℕ) → withParts t (amountAt (tabulate allPlaces f)) ≡ withParts t f
 unfolding withParts

@@ -9,6 +9,7 @@ use borrow.Author.Tests.{eq-eqb, ne-eqb}
 use lib.ListN.{length, getD, set, drop, replicate, length-set, length-replicate, drop-of-length-le}
 use lib.Seq.{getD-set-same, getD-set-other}
 use Rattle.sets.specs.Sums.{sumOver}
+use Rattle.sets.proofs.Zeros.{zero-at}
 use Rattle.meaning.specs.Tables.{Five}
 use Rattle.book.specs.Limits.{mostBytes}
 use Rattle.lines.specs.declared.Pass.the-variants.{Through, Ends}
@@ -16,7 +17,7 @@ use Rattle.lines.specs.Lines.{lf, split, linesOf, upTo, onPass, passOver}
 use Rattle.lines.proofs.Lines.{piece, lines-step, lines-pass, lines-end}
 use Rattle.lines.proofs.Counts.{counts-fit}
 use Rattle.shares.specs.Shares.{allPlaces, tabulate, amountAt}
-use Rattle.shares.proofs.Tables.{is-table, getD-zeros}
+use Rattle.shares.proofs.Tables.{is-table}
 use Rattle.leaf.specs.declared.Leaf.{Leaf}
 use Rattle.leaf.specs.declared.Leaf.the-variants.{Counts}
 use Rattle.leaf.specs.Leaf.{lineLeaf, onLeaf}
@@ -36,7 +37,7 @@ module _ (b : Five) (n : ℕ) (profile : List ℕ) where
 
   pub counted-none : Counted 0 (replicate allPlaces 0)
   unfolding profileAdds
-  counted-none = record { long = length-replicate {A = ℕ} allPlaces 0; each = λ p h. omega (arith, getD-zeros allPlaces p) }
+  counted-none = record { long = length-replicate {A = ℕ} allPlaces 0; each = λ p h. omega (arith, zero-at allPlaces p) }
 
   pub counted-all : {at : ℕ} {parts : List ℕ} → length profile ≤ at → Counted at parts → parts ≡ tabulate allPlaces (λ p. profileAdds b n p profile)
   unfolding split sumOver

@@ -17,7 +17,7 @@ use Rattle.lines.specs.Lines.{linesOf, onPass, passOver}
 use Rattle.lines.specs.Profile.{countIn, counts}
 use Rattle.shares.specs.Below.{sumBelow}
 use Rattle.shares.specs.Shares.{allPlaces}
-use Rattle.shares.proofs.Below.{sum-plus}
+use Rattle.shares.proofs.Below.{sum-plus, zeros-below}
 use Rattle.leaf.specs.declared.Leaf.{Leaf}
 use Rattle.leaf.specs.declared.Leaf.the-variants.{Counts, Fails}
 use Rattle.leaf.specs.Leaf.{lineLeaf, onLeaf}
@@ -28,7 +28,7 @@ use Rattle.leaf.proofs.Stacks.{not-through}
 -- ---- no place has more than the counts
 
 module _ (b : Five) (n : ℕ) where
-  pub line-adds-within : (p : ℕ) (line : List ℕ) → lineAdds b n p line ≤ countIn line
+  line-adds-within : (p : ℕ) (line : List ℕ) → lineAdds b n p line ≤ countIn line
   unfolding lineAdds
   line-adds-within p line = go (lineLeaf b n line) (line-placed b n line)
     where
@@ -46,20 +46,13 @@ module _ (b : Five) (n : ℕ) where
 
 -- ---- sums over the places
 
-pub zeros-below : (n : ℕ) → sumBelow (λ p. 0) n ≡ 0
-unfolding sumBelow
-zeros-below zero = refl
-zeros-below (suc n) = omega (arith, zeros-below n)
-
 module _ (q c : ℕ) where
   -- c at place q alone
   abbrev atPlace : ℕ → ℕ
   atPlace p = cond (eqb q p) c 0
 
   none-below : (n : ℕ) → n ≤ q → sumBelow atPlace n ≡ 0
-  unfolding sumBelow
-  none-below zero h = refl
-  none-below (suc n) h = rw (ne-eqb q n (λ z. omega arith)) (omega (arith, none-below n (omega arith)))
+  none-below n h = zeros-below atPlace n (λ p l. rw (ne-eqb q p (λ z. omega arith)))
 
   one-below : (n : ℕ) → q < n → sumBelow atPlace n ≡ c
   unfolding sumBelow
@@ -87,7 +80,7 @@ module _ (b : Five) (n : ℕ) where
 
   lines-add-all : (ls : List (List ℕ)) (at : ℕ) → passOver (leafPass b n) at ls ≡ Through → sumBelow (λ p. sumOver (lineAdds b n p) ls) allPlaces ≡ sumOver countIn ls
   unfolding passOver sumOver
-  lines-add-all [] at e = zeros-below allPlaces
+  lines-add-all [] at e = zeros-below (λ p. 0) allPlaces (λ p l. refl)
   lines-add-all (l ∷ ls) at e =
       let (here, rest) = both-through (leafPass b n at l) (passOver (leafPass b n) (at + length l + 1) ls) e in
       sum-plus (λ p. lineAdds b n p l) (λ p. sumOver (lineAdds b n p) ls) allPlaces

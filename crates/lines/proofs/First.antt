@@ -1,5 +1,6 @@
 -- Passes over pieces, by the first that ends: the first pass ends at the first line that breaks the rules. Assumes nothing.
 use Prim.Native.Nat.{ℕ, zero, suc, _+_, _<_}
+use mathlib.Core.Bool.{Bool, true, false, false≢true}
 use mathlib.Core.List.{List, [], _∷_}
 use mathlib.Core.Logic.{_≢_}
 use mathlib.Core.Path.{_≡_, refl}
@@ -39,6 +40,21 @@ line-through at line h = go (lineOf line) h
     go : (l : Line) → l ≢ Broken → onLine l (λ stack count. Through) (Ends at) ≡ Through
     go (Sound stack count) h = refl
     go Broken h = absurd (h refl)
+
+-- whether all lines are sound, by computing
+unfoldable pub areSound : List (List ℕ) → Bool
+areSound [] = true
+areSound (line ∷ ls) = onLine (lineOf line) (λ stack count. areSound ls) false
+
+pub are-sound : (ls : List (List ℕ)) → areSound ls ≡ true → AllSound ls
+unfolding areSound
+are-sound [] x = λ i l q. omega arith
+are-sound (line ∷ ls) x = go (lineOf line) refl x (are-sound ls)
+  where
+    go : (k : Line) → lineOf line ≡ k → onLine k (λ stack count. areSound ls) false ≡ true → (areSound ls ≡ true → AllSound ls) → AllSound (line ∷ ls)
+    go (Sound stack count) e y rest zero l q = let z : _≡_ {A = ℕ} 0 1 = cc in omega arith
+    go (Sound stack count) e y rest (suc i) l q = rest y i (omega arith) q
+    go Broken e y rest i l q = false≢true y
 
 pub checked : (profile : List ℕ) → AllSound (linesOf profile) → checkOf profile ≡ Through
 unfolding checkOf

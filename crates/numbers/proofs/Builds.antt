@@ -15,21 +15,16 @@ use Rattle.meaning.proofs.Shorter.{fall-row}
 use Rattle.format.specs.declared.Refusal.{Refusal}
 use Rattle.format.specs.Answers.{number, value}
 use Rattle.book.specs.Content.{Content}
-use Rattle.format.specs.Format.{Meaning, means, refused, meaningOf}
+use Rattle.format.specs.Format.{Meaning, refused, meaningOf}
 use Rattle.book.specs.Limits.{mostRows}
 use Rattle.book.specs.Meant.{rulesOf}
 use Rattle.lent.specs.Lent.{lent, zeroed}
-use Rattle.promised.specs.Promise.{Builds, accepted, no-room, Answers, builds, refuses}
+use Rattle.promised.specs.Promise.{Builds, accepted, no-room, Answers, refuses}
+use Rattle.promised.proofs.AsBefore.{of-sound}
 use Rattle.numbers.specs.Cases.{found, cleared, tables, build, Holds}
 use Rattle.numbers.proofs.Books.{Means}
 
 -- ---- by what the bytes mean
-
-pub built-of : {a : Content} {m : Meaning} {old b : Five} {i v : ℕ} → m ≡ means a → Answers old m b i v → Builds (rulesOf a) old b i v
-built-of {a} {old = old} {b} {i} {v} e p = go (subst (λ (m : Meaning). Answers old m b i v) e p)
-  where
-    go : {b : Five} {i v : ℕ} → Answers old (means a) b i v → Builds (rulesOf a) old b i v
-    go (builds q) = q
 
 refused-so : {why : Refusal} {m : Meaning} {old b : Five} {i v : ℕ} → m ≡ refused why → Answers old m b i v → (i ≡ number why) × (v ≡ value why) × (b ≡ old)
 refused-so {why} {old = old} {b} {i} {v} e p = go (subst (λ (m : Meaning). Answers old m b i v) e p)
@@ -88,14 +83,14 @@ module _ {a : Content} {w : Written} {bytes : List ℕ} (e : Means bytes a) (y :
   pub enough : length (w .held) ≡ length (w .rows) → length (w .fall) ≡ length (w .rows)
       → Holds (build bytes (length (w .rows)) mostRows 0 (length (w .rows)) (tables (w .held) (w .fall)))
   enough h f old b x l _ p =
-      let t = rw (← q) at (built-of (e .meant) p) in
+      let t = rw (← q) at (of-sound a (e .meant) p) in
       let (n, v, hs, fs) = builds-enough w y l h f t in
       record { number-is = n; value-is = v; leaves = (hs, fs) }
 
   -- with n rows, which are fewer
   pub fewer : (n : ℕ) → n < length (w .rows) → Holds (build bytes n n 10 n cleared)
   fewer n f old b x l h p =
-      let t = rw (← q) at (built-of (e .meant) p) in
+      let t = rw (← q) at (of-sound a (e .meant) p) in
       let k : lent old < length (w .rows) = omega arith in
       let (i, v, z) = builds-fewer w y k t in
       record { number-is = i; value-is = v ∙ omega arith; leaves = z }

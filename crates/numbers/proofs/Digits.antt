@@ -2,6 +2,7 @@
 use mathlib.Core.Path.{refl}
 use mathlib.Core.List.{[], _∷_}
 use native.Mathlib.Omega.{arith}
+use Rattle.rows.proofs.Bytes.{isBytes}
 use Rattle.sets.specs.Sets.{has, setWhere, those, members, reports, setOf}
 use Rattle.sets.specs.Table.{rowSet, rulesAt}
 use Rattle.meaning.specs.Rules.{fits, fitsAt, stands}
@@ -21,7 +22,7 @@ use Rattle.numbers.specs.Cases.{All, none, also}
 use Rattle.numbers.specs.Digits.{decimalDigits, hexadecimalDigits, bytesD, digits}
 use Rattle.numbers.proofs.Books.{Means}
 use Rattle.numbers.proofs.Builds.{enough, fewer}
-use Rattle.numbers.proofs.Walks.{isBytes, fitting}
+use Rattle.numbers.proofs.Walks.{fitting}
 
 abbrev contentD : Content
 contentD = record { pictures = hexadecimalDigits ∷ decimalDigits ∷ []; rules = (256 ∷ 257 ∷ []) ∷ (257 ∷ 97 ∷ []) ∷ [] }

@@ -2,6 +2,7 @@
 use mathlib.Core.Path.{refl}
 use mathlib.Core.List.{[], _∷_, _++_}
 use lib.ListN.{replicate}
+use Rattle.rows.proofs.Bytes.{isBytes}
 use Rattle.sets.specs.Sets.{has, setWhere, those, members, reports}
 use Rattle.meaning.specs.Rules.{fits, fitsAt, stands}
 use Rattle.meaning.specs.Standing.{level, opens, largest, held, ends, out}
@@ -15,7 +16,7 @@ use Rattle.meaning.proofs.Occurrences.{occurrencesFrom}
 use Rattle.numbers.specs.Cases.{All, none, also}
 use Rattle.numbers.specs.Many.{bytesM, many}
 use Rattle.numbers.proofs.Books.{Means}
-use Rattle.numbers.proofs.Walks.{isBytes, fitting, lacking}
+use Rattle.numbers.proofs.Walks.{fitting, lacking}
 
 abbrev contentM : Content
 contentM = record { pictures = []; rules = replicate 64 (97 ∷ []) ++ (98 ∷ []) ∷ [] }

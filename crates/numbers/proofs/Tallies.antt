@@ -1,28 +1,27 @@
 -- What a tally over the tables of a book gives, where the totals of its profile are computed, and a tally of a profile whose first line is refused.
 -- Assumes nothing.
 use mathlib.Core.Path.{_≡_, _∙_}
-use mathlib.Core.Bool.{Bool, true, false}
-use mathlib.Core.List.{List, []}
+use mathlib.Core.Bool.{true}
+use mathlib.Core.List.{List}
 use Prim.Native.Nat.{ℕ, _≤_}
 use native.Mathlib.Omega.{arith}
-use lib.Dec.{T}
 use lib.Seq.{getD-take, length-take-le}
-use lib.ListN.{length, getD, take}
-use Rattle.meaning.proofs.Tested.{below, below-at}
+use lib.ListN.{length, take}
 use Rattle.book.specs.Content.{Content, table}
 use Rattle.book.specs.Limits.{mostRules, mostBytes}
 use Rattle.book.specs.Meant.{rulesOf}
 use Rattle.book.proofs.Tables.{is-table}
 use Rattle.promised.specs.Promise.{valueOf}
+use Rattle.promised.proofs.AsBefore.{of-sound}
 use Rattle.listed.proofs.Whole.{built}
-use Rattle.lines.specs.Lines.{linesOf, lineOf, onLine}
+use Rattle.lines.specs.Lines.{linesOf}
 use Rattle.lines.specs.Written.{startOf}
-use Rattle.lines.specs.Profile.{AllSound, FirstBroken}
+use Rattle.lines.specs.Profile.{FirstBroken}
+use Rattle.lines.proofs.First.{areSound, are-sound}
 use Rattle.summed.specs.Totals.{TallyCall, sumsAfter, totalWhere, occursIn}
 use Rattle.summed.proofs.Demands.{refuses, sums}
 use Rattle.numbers.specs.Cases.{tally, refusal, Holds}
 use Rattle.numbers.proofs.Books.{Means}
-use Rattle.numbers.proofs.Builds.{built-of}
 use Rattle.numbers.proofs.Walks.{isSmall, small}
 
 -- ---- a refused line
@@ -35,17 +34,10 @@ refused profile {i} short broken b n buffer some lends places =
 
 -- ---- sums
 
--- whether all lines are sound
-abbrev pub areSound : List (List ℕ) → Bool
-areSound ls = below (length ls) (λ i. onLine (lineOf (getD ls i [])) (λ stack count. true) false)
-
-are-sound : (ls : List (List ℕ)) → T (areSound ls) → AllSound ls
-are-sound ls x i l e = rw e at (below-at (length ls) (λ i. onLine (lineOf (getD ls i [])) (λ stack count. true) false) x i l)
-
-pub summing : {a : Content} {bytes : List ℕ} → Means bytes a → (profile : List ℕ) → isSmall a profile ≡ true → T (areSound (linesOf profile))
+pub summing : {a : Content} {bytes : List ℕ} → Means bytes a → (profile : List ℕ) → isSmall a profile ≡ true → areSound (linesOf profile) ≡ true
     → Holds (tally bytes profile 0 0 (table mostRules (λ k. totalWhere (occursIn (rulesOf a) k) profile)))
 summing {a} e profile x lines old b y p z buffer places =
-    let (t, lends) = built (built-of (e .meant) p) z in
+    let (t, lends) = built (of-sound a (e .meant) p) z in
     let s = small a profile x in
     let w : TallyCall = record { tables = b; n = valueOf y; profile = profile; sums = buffer } in
     let told = sums (rulesOf a) w (record { tables = t; few = s .few; bytes = s .bytes }) in

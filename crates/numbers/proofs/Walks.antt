@@ -2,12 +2,13 @@
 use mathlib.Core.Path.{_≡_}
 use mathlib.Core.Bool.{Bool, true, false, _&&_, and-eq-true-iff}
 use mathlib.Core.List.{List, [], _∷_, reverse}
-use Prim.Native.Nat.{ℕ, zero, suc, _/_, _≤_}
+use Prim.Native.Nat.{ℕ, _/_, _≤_}
 use native.Mathlib.Omega.{arith}
-use lib.Dec.{leb, ltb}
+use lib.Dec.{leb}
 use lib.ListN.{length}
-use borrow.Author.Tests.{leb-true, leb-false, ltb-true}
+use borrow.Author.Tests.{leb-true, leb-false}
 use Rattle.rows.specs.Rows.{ByteText}
+use Rattle.rows.proofs.Bytes.{isBytes, bytes-of}
 use Rattle.meaning.specs.Rules.{count}
 use Rattle.meaning.specs.Standing.{held}
 use Rattle.meaning.specs.Falls.{fallsIn}
@@ -15,6 +16,7 @@ use Rattle.meaning.specs.Tables.{Five, Tables}
 use Rattle.book.specs.Content.{Content}
 use Rattle.book.specs.Limits.{mostRules, mostBytes}
 use Rattle.book.specs.Meant.{rulesOf}
+use Rattle.promised.proofs.AsBefore.{of-sound}
 use Rattle.answers.specs.Walked.{numberOf, valuesOf}
 use Rattle.walk.specs.Walk.{written}
 use Rattle.listed.specs.Demands.{WalkCall, walkAnswer, reportsAfter, OverTables}
@@ -23,7 +25,6 @@ use Rattle.listed.proofs.Demands.{found, roomy, crowded}
 use Rattle.listed.proofs.Whole.{built}
 use Rattle.numbers.specs.Cases.{Gives, walk, Holds}
 use Rattle.numbers.proofs.Books.{Means}
-use Rattle.numbers.proofs.Builds.{built-of}
 
 -- a walk that is computed whole
 pub gives : {w : WalkCall} {number : ℕ} {values buffer : List ℕ} → numberOf (walkAnswer w) ≡ number → valuesOf (walkAnswer w) ≡ values → reportsAfter w ≡ buffer
@@ -31,16 +32,6 @@ pub gives : {w : WalkCall} {number : ℕ} {values buffer : List ℕ} → numberO
 gives n v b = record { answers = record { number-is = n; values-are = v }; leaves = b }
 
 -- ---- what is tested of a book and a text
-
-unfoldable pub isBytes : List ℕ → Bool
-isBytes [] = true
-isBytes (c ∷ t) = ltb c 256 && isBytes t
-
-bytes-of : (t : List ℕ) → isBytes t ≡ true → ByteText t
-unfolding isBytes
-bytes-of [] x i = omega arith
-bytes-of (c ∷ t) x zero = ltb-true c 256 (and-eq-true-iff (ltb c 256) (isBytes t) .0 x .0)
-bytes-of (c ∷ t) x (suc i) = bytes-of t (and-eq-true-iff (ltb c 256) (isBytes t) .0 x .1) i
 
 abbrev pub isSmall : Content → List ℕ → Bool
 isSmall a text = leb (count (rulesOf a)) mostRules && (isBytes text && leb (length text) mostBytes)
@@ -74,7 +65,7 @@ module _ {a : Content} {bytes : List ℕ} (e : Means bytes a) {text : List ℕ} 
   pub fitting : leb (many a text) (length reports / 2) ≡ true
       → Holds (walk bytes text reports 0 (many a text ∷ fallsIn (rulesOf a) (reverse text) ∷ held (rulesOf a) (reverse text) ∷ []) (written (occurrences mostRules (rulesOf a) text) reports))
   fitting l old b y p z =
-      let (t, lends) = built (built-of (e .meant) p) z in
+      let (t, lends) = built (of-sound a (e .meant) p) z in
       let s = small a text x in
       let q = so-many a text s reports t in
       let (r, d) = roomy (over a text s reports t) (s .short) lends (omega (arith, leb-true (many a text) (length reports / 2) l)) in
@@ -83,7 +74,7 @@ module _ {a : Content} {bytes : List ℕ} (e : Means bytes a) {text : List ℕ} 
   -- with less
   pub lacking : leb (many a text) (length reports / 2) ≡ false → Holds (walk bytes text reports 14 (many a text ∷ []) reports)
   lacking l old b y p z =
-      let (t, lends) = built (built-of (e .meant) p) z in
+      let (t, lends) = built (of-sound a (e .meant) p) z in
       let s = small a text x in
       let q = so-many a text s reports t in
       let (r, d) = crowded (over a text s reports t) (s .short) lends (omega (arith, leb-false (many a text) (length reports / 2) l)) in

@@ -10,12 +10,9 @@ use lib.ListN.{length, getD, length-append, List·getD-append}
 use lib.Seq.{getD-append-seam}
 use Rattle.rows.specs.Rows.{ByteText, Before, none, earlier, last, IsRow, HasRow, Ascending, IsRows, MoreThan}
 use Rattle.rows.specs.Unique.{Congruence}
+use Rattle.rows.proofs.Bytes.{byte-cons}
 use Rattle.rows.proofs.Order.{before-nil, before-trans, before-cons}
 use Rattle.rows.proofs.Rows.{distinct, row-before, row-same, row-append}
-
-pub byte-cons : (c : ℕ) (t : List ℕ) → c < 256 → ByteText t → ByteText (c ∷ t)
-byte-cons c t l b zero = l
-byte-cons c t l b (suc i) = b i
 
 pub length-snoc : (ts : List (List ℕ)) (x : List ℕ) → length (ts ++ x ∷ []) ≡ suc (length ts)
 length-snoc ts x = rw length-append (omega arith)

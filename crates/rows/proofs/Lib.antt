@@ -1,4 +1,5 @@
 pub mod Compare
+pub mod Bytes
 pub mod Build
 pub mod Exists
 pub mod Order

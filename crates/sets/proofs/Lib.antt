@@ -5,3 +5,5 @@ pub mod InWords
 pub mod Table
 pub mod Among
 pub mod Sums
+pub mod First
+pub mod Zeros

@@ -1,7 +1,7 @@
 -- Laws of sums. Assumes nothing.
 use mathlib.Core.Path.{_≡_, refl, sym, ap, ap₂, _∙_}
 use Prim.Native.Nat.{ℕ, zero, suc, _+_, _*_, _≤_, _<_}
-use native.Mathlib.Nat.{mul-add, mul-zero}
+use native.Mathlib.Nat.{add-zero, zero-add, add-suc, mul-add, mul-zero}
 use native.Mathlib.Numerals.{add-one}
 use native.Mathlib.Decide.{decLt}
 use native.Mathlib.Omega.{arith}
@@ -47,6 +47,15 @@ pub sum-times : (k : ℕ) (f : ℕ → ℕ) (n : ℕ) → sumBelow (λ i. k * f 
 unfolding sumBelow
 sum-times k f zero = sym (mul-zero k)
 sum-times k f (suc n) = ap (λ (x : ℕ). x + k * f n) (sum-times k f n) ∙ sym (mul-add k (sumBelow f n) (f n))
+
+-- terms that are 0 add nothing
+pub sum-zeros : (f : ℕ → ℕ) (m n : ℕ) → ((i : ℕ) → m ≤ i → i < m + n → f i ≡ 0) → sumBelow f (m + n) ≡ sumBelow f m
+unfolding sumBelow
+sum-zeros f m zero z = rw add-zero
+sum-zeros f m (suc n) z = rw add-suc (omega (arith, sum-zeros f m n (λ i h l. z i h (omega arith)), z (m + n) (omega arith) (omega arith)))
+
+pub zeros-below : (f : ℕ → ℕ) (n : ℕ) → ((i : ℕ) → i < n → f i ≡ 0) → sumBelow f n ≡ 0
+zeros-below f n z = ap (sumBelow f) (sym (zero-add n)) ∙ sum-zeros f 0 n (λ i h l. z i (omega arith)) ∙ sum-none f
 
 -- a sum of terms of at most 1
 pub sum-few : (f : ℕ → ℕ) (n : ℕ) → ((i : ℕ) → f i ≤ 1) → sumBelow f n ≤ n

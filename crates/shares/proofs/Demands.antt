@@ -8,6 +8,7 @@ use native.Mathlib.Decide.{decLt}
 use native.Mathlib.Omega.{arith}
 use lib.ListN.{length, getD, replicate, length-replicate, List·getD-eq-default}
 use borrow.Author.Tests.{lt-ltb, le-ltb}
+use Rattle.sets.proofs.Zeros.{zero-at}
 use Rattle.shares.specs.declared.Shares.{Shares}
 use Rattle.shares.specs.Shares.{allPlaces, limit, floorOf, remainderOf, shareIn, tabulate, amountAt, totalOf, partsShared, sharesOf}
 use Rattle.shares.specs.Demands.{share, remainder, Ahead, Shared, Demanded, Demands}
@@ -15,7 +16,7 @@ use Rattle.shares.proofs.Below.{sum-same}
 use Rattle.shares.proofs.Ranks.{Before, larger, lower}
 use Rattle.shares.proofs.Laws.{shares-add, shares-only, share-exact, share-rounded, share-ahead}
 use Rattle.shares.proofs.Cases.{is-past, is-nothing, is-given}
-use Rattle.shares.proofs.Tables.{length-table, getD-table, getD-zeros}
+use Rattle.shares.proofs.Tables.{length-table, getD-table}
 
 module _ (totals : List ℕ) where
   abbrev whole : ℕ
@@ -42,7 +43,7 @@ module _ (totals : List ℕ) where
   ]
 
   all-zero : partsShared totals ≡ replicate allPlaces 0 → (i : ℕ) → share totals i ≡ 0
-  all-zero e i = ap (λ (l : List ℕ). getD l i 0) e ∙ getD-zeros allPlaces i
+  all-zero e i = ap (λ (l : List ℕ). getD l i 0) e ∙ zero-at allPlaces i
 
   module _ (h : 0 < whole) (l : whole ≤ limit) where
     share-is : (i : ℕ) → i < allPlaces → share totals i ≡ shareIn (amountAt totals) allPlaces whole i

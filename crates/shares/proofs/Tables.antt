@@ -5,9 +5,11 @@ use Prim.Native.Nat.{ℕ, zero, suc, _+_, _<_}
 use native.Mathlib.Nat.{not-suc-le-zero, le-of-suc-le-suc}
 use native.Mathlib.Omega.{arith}
 use native.Mathlib.Decide.{decLt}
-use lib.ListN.{length, getD, set, replicate, length-set}
+use lib.ListN.{length, getD, set, length-set}
 use lib.Seq.{ext-getD, getD-set-same, getD-set-other}
-use Rattle.shares.specs.Shares.{tabulate}
+use Rattle.shares.specs.Below.{sumBelow}
+use Rattle.shares.specs.Shares.{allPlaces, tabulate, amountAt, totalOf}
+use Rattle.shares.proofs.Below.{sum-same}
 
 pub length-table : (n : ℕ) (f : ℕ → ℕ) → length (tabulate n f) ≡ n
 unfolding tabulate
@@ -26,10 +28,12 @@ is-table n f l e h =
     ext-getD 0 l (tabulate n f) (e ∙ sym (length-table n f))
     (λ i k. h i (omega arith) ∙ sym (getD-table n f i 0 (omega arith)))
 
-pub getD-zeros : (n i : ℕ) → getD {A = ℕ} (replicate n 0) i 0 ≡ 0
-getD-zeros zero i = refl
-getD-zeros (suc n) zero = refl
-getD-zeros (suc n) (suc i) = getD-zeros n i
+-- tables of terms that agree, and their total
+pub tabulate-same : (n : ℕ) (f g : ℕ → ℕ) → ((k : ℕ) → k < n → f k ≡ g k) → tabulate n f ≡ tabulate n g
+tabulate-same n f g e = is-table n g (tabulate n f) (length-table n f) (λ k h. getD-table n f k 0 h ∙ e k h)
+
+pub total-tabulate : (f : ℕ → ℕ) → totalOf (tabulate allPlaces f) ≡ sumBelow f allPlaces
+total-tabulate f = sum-same (amountAt (tabulate allPlaces f)) f allPlaces (λ p h. getD-table allPlaces f p 0 h)
 
 -- ---- a table that is filled from the front
 

@@ -1,47 +1,22 @@
 -- The second pass ends at the first frame whose walk is refused with 13, at that byte, and gets through where there is none. Assumes nothing.
-use Prim.Native.Nat.{ℕ, zero, suc, _+_, _≤_, _<_}
-use mathlib.Core.List.{List, [], _∷_}
+use Prim.Native.Nat.{ℕ, _+_, _<_}
+use mathlib.Core.List.{[]}
 use mathlib.Core.Logic.{_≢_}
 use mathlib.Core.Path.{_≡_, ap, _∙_}
 use native.Mathlib.Omega.{arith}
-use lib.ListN.{length, getD, take, length-take}
-use Rattle.sets.specs.Sums.{sumOver}
+use lib.ListN.{length, getD}
 use Rattle.answers.specs.Walked.{numberOf}
-use Rattle.lines.specs.declared.Line.{Line}
-use Rattle.lines.specs.declared.Line.the-variants.{Sound, Broken}
 use Rattle.lines.specs.declared.Pass.the-variants.{Through, Ends}
-use Rattle.lines.specs.Lines.{lf, semicolon, linesOf, framesOf, lineOf, onLine}
+use Rattle.lines.specs.Lines.{linesOf}
 use Rattle.lines.specs.Written.{startOf}
 use Rattle.tally.specs.Tally.{framePass, linePass, linesPass, moveBy}
 use Rattle.lines.specs.Profile.{framesIn, frameAt}
 use Rattle.summed.specs.Totals.{TallyCall, Ready, walkOver, FirstLost, NoneLost}
-use Rattle.lines.proofs.Lines.{bytesIn, split-bytes}
+use Rattle.lines.proofs.Sizes.{frame-le}
 use Rattle.lines.proofs.Pieces.{start-from}
 use Rattle.lines.proofs.First.{pass-through, pass-first}
 use Rattle.tally.proofs.Walks.{frames-pass}
 use Rattle.summed.proofs.Walked.{frame-lost, frame-kept}
-
--- ---- a frame is no longer than the profile
-
-piece-le : (ps : List (List ℕ)) (i : ℕ) → length (getD ps i []) ≤ bytesIn ps
-unfolding sumOver
-piece-le [] i = omega arith
-piece-le (p ∷ ps) zero = omega arith
-piece-le (p ∷ ps) (suc i) = omega (arith, piece-le ps i)
-
-frames-le : (line : List ℕ) → bytesIn (framesIn line) ≤ length line
-unfolding sumOver
-frames-le line = go (lineOf line)
-  where
-    go : (l : Line) → bytesIn (onLine l (λ stack count. framesOf (take stack line)) []) ≤ length line
-    go (Sound stack count) = omega (arith, split-bytes semicolon ([] ∷ []) (take stack line), length-take stack line)
-    go Broken = omega arith
-
-frame-le : (profile : List ℕ) (i j : ℕ) → length (frameAt profile i j) ≤ length profile
-unfolding sumOver
-frame-le profile i j =
-    let line = getD (linesOf profile) i [] in
-    omega (arith, piece-le (framesIn line) j, frames-le line, piece-le (linesOf profile) i, split-bytes lf [] profile)
 
 module _ (w : TallyCall) (x : Ready w) where
   -- a frame whose walk is not refused with 13

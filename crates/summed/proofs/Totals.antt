@@ -3,18 +3,17 @@
 use mathlib.Core.Bool.{Bool, true, false, cond, _||_}
 use mathlib.Core.List.{List, [], _∷_}
 use mathlib.Core.Path.{_≡_, refl, ap, _∙_}
-use Prim.Native.Nat.{ℕ, zero, suc, _+_, _≤_, _<_}
+use Prim.Native.Nat.{ℕ, suc, _+_, _≤_, _<_}
 use native.Mathlib.Nat.{add-zero, zero-add, add-assoc}
 use native.Mathlib.Omega.{arith}
-use lib.Dec.{eqb}
-use lib.ListN.{length, getD, take, replicate}
+use lib.ListN.{length, getD, replicate}
 use Rattle.rows.specs.Rows.{ByteText, IsRow}
-use Rattle.rows.proofs.Build.{byte-cons}
 use Rattle.sets.specs.Sets.{has}
 use Rattle.sets.specs.Sums.{sumOver}
 use Rattle.sets.specs.Table.{rulesAt}
 use Rattle.sets.proofs.Laws.{has-empty, has-or}
 use Rattle.sets.proofs.Sums.{sum-le}
+use Rattle.sets.proofs.Zeros.{zero-at}
 use Rattle.meaning.specs.Rules.{Rules}
 use Rattle.meaning.specs.Standing.{Same}
 use Rattle.meaning.specs.Tables.{Five, Tables}
@@ -23,51 +22,15 @@ use Rattle.book.specs.Limits.{mostRules}
 use Rattle.lent.specs.Lent.{lent}
 use Rattle.one_byte.specs.declared.Moved.{Moved}
 use Rattle.listed.proofs.Demands.{moves}
-use Rattle.lines.specs.declared.Line.{Line}
-use Rattle.lines.specs.declared.Line.the-variants.{Sound, Broken}
-use Rattle.lines.specs.declared.Pass.{Pass}
 use Rattle.lines.specs.declared.Pass.the-variants.{Through}
-use Rattle.lines.specs.Lines.{lf, semicolon, joined, split, linesOf, framesOf, passOver, lineOf, onLine}
+use Rattle.lines.specs.Lines.{linesOf}
 use Rattle.tally.specs.Tally.{passFrom, rulesFrom, framePass, frameRules, rulesOver, linePass, lineSums, sumsOver, linesPass, linesSums, sumsOf, moveBy}
 use Rattle.lines.specs.Profile.{framesIn, countIn, counts}
+use Rattle.lines.proofs.First.{pass-through}
+use Rattle.lines.proofs.Bytes.{EachBytes, lines-bytes, frames-bytes}
 use Rattle.summed.specs.Totals.{once, partOf, totalWhere, endsFrom, occursIn}
-use Rattle.tally.proofs.Adding.{zero-at, add-members}
+use Rattle.tally.proofs.Adding.{add-members}
 use Rattle.tally.proofs.Walks.{frames-pass, line-adds, line-length}
-
--- ---- pieces of bytes
-
-pub data All : List (List ℕ) → Type 0 where
-  empty : All []
-  more : {p : List ℕ} {ps : List (List ℕ)} → ByteText p → All ps → All (p ∷ ps)
-
-no-byte : ByteText []
-no-byte i = omega arith
-
-joined-all : (c : ℕ) (ps : List (List ℕ)) → c < 256 → All ps → All (joined c ps)
-joined-all c [] h empty = more (byte-cons c [] h no-byte) empty
-joined-all c (p ∷ ps) h (more b a) = more (byte-cons c p h b) a
-
-split-all : (mark : ℕ) (last : List (List ℕ)) → All last → (text : List ℕ) → ByteText text → All (split mark last text)
-unfolding split
-split-all mark last a [] b = a
-split-all mark last a (c ∷ text) b = go (eqb c mark) (split-all mark last a text (λ i. b (suc i)))
-  where
-    go : (t : Bool) → All (split mark last text) → All (cond t ([] ∷ split mark last text) (joined c (split mark last text)))
-    go true r = more no-byte r
-    go false r = joined-all c (split mark last text) (b 0) r
-
-take-bytes : (i : ℕ) (text : List ℕ) → ByteText text → ByteText (take i text)
-take-bytes zero text b = no-byte
-take-bytes (suc i) [] b = no-byte
-take-bytes (suc i) (c ∷ text) b = byte-cons c (take i text) (b 0) (take-bytes i text (λ j. b (suc j)))
-
--- the frames of a line, of which one that breaks the rules has none
-frames-all : (line : List ℕ) → ByteText line → All (framesIn line)
-frames-all line b = go (lineOf line)
-  where
-    go : (l : Line) → All (onLine l (λ stack count. framesOf (take stack line)) [])
-    go (Sound stack count) = split-all semicolon ([] ∷ []) (more no-byte empty) (take stack line) (take-bytes stack line b)
-    go Broken = empty
 
 -- ---- sums, whatever lies behind a move
 
@@ -103,18 +66,18 @@ module _ (move : ℕ → ℕ → Moved) (rules : ℕ → ℕ) (k : ℕ) (small :
 
 -- two tests of a frame that agree on bytes have the same totals over a profile of bytes
 module _ (f g : List ℕ → Bool) (same : (frame : List ℕ) → ByteText frame → f frame ≡ g frame) where
-  once-same : (count : ℕ) (fs : List (List ℕ)) → All fs → once f count fs ≡ once g count fs
+  once-same : (count : ℕ) (fs : List (List ℕ)) → EachBytes fs → once f count fs ≡ once g count fs
   unfolding once
-  once-same count [] empty = refl
-  once-same count (x ∷ fs) (more bytes a) = rw (same x bytes, once-same count fs a)
+  once-same count [] a = refl
+  once-same count (x ∷ fs) a = rw (same x (a 0), once-same count fs (λ i. a (suc i)))
 
-  parts-same : (ls : List (List ℕ)) → All ls → sumOver (partOf f) ls ≡ sumOver (partOf g) ls
+  parts-same : (ls : List (List ℕ)) → EachBytes ls → sumOver (partOf f) ls ≡ sumOver (partOf g) ls
   unfolding sumOver
-  parts-same [] empty = refl
-  parts-same (l ∷ ls) (more bytes a) = rw (once-same (countIn l) (framesIn l) (frames-all l bytes), parts-same ls a)
+  parts-same [] a = refl
+  parts-same (l ∷ ls) a = rw (once-same (countIn l) (framesIn l) (frames-bytes l (a 0)), parts-same ls (λ i. a (suc i)))
 
   total-same : (profile : List ℕ) → ByteText profile → totalWhere f profile ≡ totalWhere g profile
-  total-same profile bytes = parts-same (linesOf profile) (split-all lf [] empty profile bytes)
+  total-same profile bytes = parts-same (linesOf profile) (lines-bytes profile bytes)
 
 -- no more than the counts of all lines
 module _ (test : List ℕ → Bool) where
@@ -129,13 +92,6 @@ module _ (test : List ℕ → Bool) where
 
   pub total-le : (profile : List ℕ) → totalWhere test profile ≤ counts profile
   total-le profile = sum-le (partOf test) countIn (λ line. once-le (countIn line) (framesIn line)) (linesOf profile)
-
--- a pass that each piece lets through
-through : (each : ℕ → List ℕ → Pass) → ((at : ℕ) (p : List ℕ) → ByteText p → each at p ≡ Through) → (ps : List (List ℕ)) → All ps → (at : ℕ)
-    → passOver each at ps ≡ Through
-unfolding passOver
-through each h [] empty at = refl
-through each h (p ∷ ps) (more b a) at = rw (h at p b) (through each h ps a (at + length p + 1))
 
 module _ {r : Rules} {b : Five} {n : ℕ} (tables : Tables r b n) (lends : n ≤ lent b) where
   abbrev move : ℕ → ℕ → Moved
@@ -158,11 +114,11 @@ module _ {r : Rules} {b : Five} {n : ℕ} (tables : Tables r b n) (lends : n ≤
   frame-through at frame bytes = from-through frame bytes at (row-first tables)
 
   line-through : (at : ℕ) (line : List ℕ) → ByteText line → linePass move at line ≡ Through
-  line-through at line bytes = frames-pass move at line ∙ through (framePass move) frame-through (framesIn line) (frames-all line bytes) at
+  line-through at line bytes = frames-pass move at line ∙ pass-through (framePass move) (framesIn line) at (λ i l. frame-through _ _ (frames-bytes line bytes i))
 
   pub lines-through : (profile : List ℕ) → ByteText profile → linesPass move profile ≡ Through
   unfolding linesPass
-  lines-through profile bytes = through (linePass move) line-through (linesOf profile) (split-all lf [] empty profile bytes) 0
+  lines-through profile bytes = pass-through (linePass move) (linesOf profile) 0 (λ i l. line-through _ _ (lines-bytes profile bytes i))
 
   -- ---- the sums
 

@@ -1,14 +1,12 @@
 -- The tally walks a frame as `walk` walks a text: it is lost where the walk is refused with 13, and reports the same rules. Assumes nothing.
-use mathlib.Core.Bool.{Bool, true, false, cond}
 use mathlib.Core.List.{List, [], _∷_, _++_}
 use mathlib.Core.Logic.{_≢_}
-use mathlib.Core.Path.{_≡_, refl, sym, ap, _∙_}
-use Prim.Native.Nat.{ℕ, _+_, _/_, _≤_, _<_}
+use mathlib.Core.Path.{_≡_, refl, sym, _∙_}
+use Prim.Native.Nat.{ℕ, _+_, _≤_, _<_}
 use native.Mathlib.Nat.{add-zero}
 use native.Mathlib.Omega.{arith}
 use lib.Bits.{bitOr}
-use lib.Dec.{ltb}
-use lib.ListN.{length, getD}
+use lib.ListN.{length}
 use Rattle.sets.specs.Sets.{has, members, reports as pairs}
 use Rattle.sets.specs.Table.{rulesAt}
 use Rattle.sets.proofs.Laws.{has-empty, has-or}
@@ -16,17 +14,14 @@ use Rattle.meaning.specs.Tables.{Five}
 use Rattle.book.specs.Limits.{mostRules, mostBytes}
 use Rattle.lent.specs.Lent.{lent}
 use Rattle.walk.specs.declared.Counted.{Counted}
-use Rattle.walk.specs.declared.Counted.the-variants.{Read, Stopped}
+use Rattle.walk.specs.declared.Counted.the-variants.{Stopped}
 use Rattle.one_byte.specs.declared.Moved.{Moved}
 use Rattle.one_byte.specs.declared.Moved.the-variants.{Reached, Lost}
-use Rattle.answers.specs.declared.Walked.{Walked}
-use Rattle.answers.specs.declared.Walked.the-variants.{Accepted, TooLong, BadRows, Damaged, NoRoom}
 use Rattle.answers.specs.Walked.{numberOf, valueOf}
-use Rattle.one_byte.specs.Move.{Lent, moveFrom, onMove}
-use Rattle.walk.specs.Walk.{reported, runFrom, runOf, reportsFrom, answerOf, walkOf}
-use Rattle.lent.proofs.HasRows.{rows-lent}
-use Rattle.one_byte.proofs.Laws.{Within, move-within, move-lent}
-use Rattle.walk.proofs.Laws.{walked}
+use Rattle.one_byte.specs.Move.{moveFrom, onMove}
+use Rattle.walk.specs.Walk.{reported, runFrom, runOf, reportsFrom, walkOf}
+use Rattle.one_byte.proofs.Laws.{Within, move-within}
+use Rattle.walk.proofs.Stops.{onRun, move-is, run-stops, run-ends}
 use Rattle.lines.specs.declared.Pass.{Pass}
 use Rattle.lines.specs.declared.Pass.the-variants.{Through, Ends}
 use Rattle.tally.specs.Tally.{afterMove, passFrom, rulesFrom, framePass, frameRules, moveBy}
@@ -44,19 +39,12 @@ unfolding reported
 reported-is out row = refl
 
 -- where a run that starts at `base` ends
-abbrev onRun : ℕ → Counted → Pass
-onRun base (Read made falls row) = Through
-onRun base (Stopped i) = Ends (base + i)
+abbrev runPass : ℕ → Counted → Pass
+runPass base q = onRun q (λ row. Through) (λ i. Ends (base + i))
 
 module _ (b : Five) (n : ℕ) (lends : n ≤ lent b) where
   abbrev moving : ℕ → ℕ → Moved
   moving row c = moveFrom (b .goto) (b .fall) n row c 0
-
-  -- from a row that is lent
-  move-is : (row c : ℕ) → row < n → moveBy b n row c ≡ moving row c
-  move-is row c l =
-      let enough : Lent (b .goto) (b .fall) n = record { few = omega arith; entries = omega arith; falls = omega arith } in
-      move-lent (b .goto) (b .fall) n row c enough l
 
   -- ---- a frame
 
@@ -66,15 +54,15 @@ module _ (b : Five) (n : ℕ) (lends : n ≤ lent b) where
   abbrev reporting : ℕ → ℕ → List ℕ → List ℕ
   reporting = reportsFrom (b .goto) (b .fall) (b .out) n
 
-  pass-is : (frame : List ℕ) (base at row falls made : ℕ) → row < n → passFrom (moveBy b n) (base + at) row frame ≡ onRun base (run at row falls made frame)
+  pass-is : (frame : List ℕ) (base at row falls made : ℕ) → row < n → passFrom (moveBy b n) (base + at) row frame ≡ runPass base (run at row falls made frame)
   unfolding passFrom runFrom
   pass-is [] base at row falls made l = refl
   pass-is (c ∷ frame) base at row falls made l =
-      rw (move-is row c l) (go (moving row c) (move-within (b .goto) (b .fall) n row c 0) (λ to f m h. pass-is frame base (at + 1) to f m h))
+      rw (move-is b n lends row c l) (go (moving row c) (move-within (b .goto) (b .fall) n row c 0) (λ to f m h. pass-is frame base (at + 1) to f m h))
     where
-      go : (m : Moved) → Within n m → ((to f m : ℕ) → to < n → passFrom (moveBy b n) (base + (at + 1)) to frame ≡ onRun base (run (at + 1) to f m frame))
+      go : (m : Moved) → Within n m → ((to f m : ℕ) → to < n → passFrom (moveBy b n) (base + (at + 1)) to frame ≡ runPass base (run (at + 1) to f m frame))
           → afterMove m (λ to. passFrom (moveBy b n) (base + at + 1) to frame) (Ends (base + at))
-          ≡ onRun base (onMove m (λ to more. run (at + 1) to (falls + more) (made + length (reported (b .out) to)) frame) (Stopped at))
+          ≡ runPass base (onMove m (λ to more. run (at + 1) to (falls + more) (made + length (reported (b .out) to)) frame) (Stopped at))
       go (Reached to f) w ih = let q : base + at + 1 ≡ base + (at + 1) = omega arith in rw q (ih to (falls + f) (made + length (reported (b .out) to)) w)
       go Lost w ih = refl
 
@@ -83,7 +71,7 @@ module _ (b : Five) (n : ℕ) (lends : n ≤ lent b) where
   unfolding rulesFrom reportsFrom rulesReported among
   rules-are k small [] at row l = sym (has-empty k)
   rules-are k small (c ∷ frame) at row l =
-      rw (move-is row c l) (go (moving row c) (move-within (b .goto) (b .fall) n row c 0) (λ to h. rules-are k small frame (at + 1) to h))
+      rw (move-is b n lends row c l) (go (moving row c) (move-within (b .goto) (b .fall) n row c 0) (λ to h. rules-are k small frame (at + 1) to h))
     where
       go : (m : Moved) → Within n m → ((to : ℕ) → to < n → among k (rulesReported (reporting (at + 1) to frame)) ≡ has (rulesFrom (moveBy b n) (rulesAt (b .out)) to frame) k)
           → among k (rulesReported (onMove m (λ to more. pairs (at + 1) (reported (b .out) to) ++ reporting (at + 1) to frame) []))
@@ -91,52 +79,17 @@ module _ (b : Five) (n : ℕ) (lends : n ≤ lent b) where
       go (Reached to f) w ih = rw (rules-pairs, among-append, reported-is (b .out) to, among-members k mostRules (rulesAt (b .out) to) small, ih to w, has-or)
       go Lost w ih = sym (has-empty k)
 
-  -- ---- the walk's answer, with no room
-
-  -- where the walk over a text that starts at `base` is refused with 13
-  abbrev onWalk : ℕ → Walked → Pass
-  onWalk base (Damaged i) = Ends (base + i)
-  onWalk base (Accepted made falls held) = Through
-  onWalk base (NoRoom made) = Through
-  onWalk base TooLong = Through
-  onWalk base (BadRows m) = Through
-
-  on-answer : (held : List ℕ) (base : ℕ) (q : Counted) → onRun base q ≡ onWalk base (answerOf held (0 / 2) q)
-  on-answer held base (Read made falls row) = go (ltb (0 / 2) made)
-    where
-      go : (t : Bool) → Through ≡ onWalk base (cond t (NoRoom made) (Accepted made falls (getD held row 0)))
-      go true = refl
-      go false = refl
-  on-answer held base (Stopped i) = refl
-
-  lost-is : (a : Walked) (base x : ℕ) → numberOf a ≡ 13 → valueOf a ≡ x → onWalk base a ≡ Ends (base + x)
-  lost-is (Damaged i) base x e v = rw v
-  lost-is (Accepted made falls held) base x e v = absurd (omega arith)
-  lost-is (NoRoom made) base x e v = absurd (omega arith)
-  lost-is TooLong base x e v = absurd (omega arith)
-  lost-is (BadRows m) base x e v = absurd (omega arith)
-
-  kept-is : (a : Walked) (base : ℕ) → numberOf a ≢ 13 → onWalk base a ≡ Through
-  kept-is (Damaged i) base ne = absurd (ne refl)
-  kept-is (Accepted made falls held) base ne = refl
-  kept-is (NoRoom made) base ne = refl
-  kept-is TooLong base ne = refl
-  kept-is (BadRows m) base ne = refl
-
   module _ (some : n ≢ 0) (frame : List ℕ) where
-    as-walked : (at : ℕ) → length frame ≤ mostBytes → framePass (moveBy b n) at frame ≡ onWalk at (walkOf b n frame 0)
+    frame-run : (at : ℕ) → framePass (moveBy b n) at frame ≡ runPass at (runOf (b .goto) (b .fall) (b .out) n frame)
     unfolding framePass
-    as-walked at short =
-        rw add-zero at (pass-is frame at 0 0 0 0 (omega arith))
-        ∙ on-answer (b .held) at (runOf (b .goto) (b .fall) (b .out) n frame)
-        ∙ ap (onWalk at) (walked b n frame 0 short (rows-lent b n some lends) refl refl)
+    frame-run at = rw add-zero at (pass-is frame at 0 0 0 0 (omega arith))
 
     pub frame-lost : (at x : ℕ) → length frame ≤ mostBytes → numberOf (walkOf b n frame 0) ≡ 13 → valueOf (walkOf b n frame 0) ≡ x
         → framePass (moveBy b n) at frame ≡ Ends (at + x)
-    frame-lost at x short e v = as-walked at short ∙ lost-is (walkOf b n frame 0) at x e v
+    frame-lost at x short e v = frame-run at ∙ run-stops b n lends some frame short Through (λ i. Ends (at + i)) x e v
 
     pub frame-kept : (at : ℕ) → length frame ≤ mostBytes → numberOf (walkOf b n frame 0) ≢ 13 → framePass (moveBy b n) at frame ≡ Through
-    frame-kept at short ne = as-walked at short ∙ kept-is (walkOf b n frame 0) at ne
+    frame-kept at short ne = frame-run at ∙ run-ends b n lends some frame short Through (λ i. Ends (at + i)) ne
 
     pub frame-reports : (k : ℕ) → k < mostRules → reportsIn b n k frame ≡ has (frameRules (moveBy b n) (rulesAt (b .out)) frame) k
     unfolding frameRules

@@ -16,6 +16,7 @@ use Rattle.tally.specs.Tally.{addAll}
 use Rattle.sets.specs.Sets.{among}
 use Rattle.tally.specs.Passes.{Room}
 use Rattle.sets.proofs.Among.{Apart, among-members, apart-members}
+use Rattle.sets.proofs.Zeros.{zero-at}
 
 pub add-append : (count : ℕ) (js ks sums : List ℕ) → addAll count (js ++ ks) sums ≡ addAll count ks (addAll count js sums)
 unfolding addAll
@@ -64,11 +65,6 @@ room-less h r = record { fits = λ k. omega (arith, r .fits k) }
 
 pub room-add : (count a b : ℕ) (ks sums : List ℕ) → count ≤ mostCount → length ks + b ≤ a → Room a sums → Room b (addAll count ks sums)
 room-add count a b ks sums h l r = record { fits = λ k. omega (arith, r .fits k, add-le count h ks sums k) }
-
-pub zero-at : (n k : ℕ) → _≡_ {A = ℕ} (getD (replicate n 0) k 0) 0
-zero-at zero k = refl
-zero-at (suc n) zero = refl
-zero-at (suc n) (suc k) = zero-at n k
 
 -- at first there is room for the count of every rule, for each byte of the longest profile
 pub room-zeros : (a : ℕ) → a ≤ mostRules * mostBytes → Room a (replicate mostRules 0)

@@ -9,6 +9,7 @@ use lib.Dec.{T, ltb, leb, eqb, eqb→eq}
 use lib.ListN.{length, getD}
 use borrow.Author.Tests.{ltb-true, leb-true, leb-false}
 use Rattle.rows.specs.Rows.{ByteText}
+use Rattle.rows.proofs.Bytes.{isBytes, bytes-of}
 use Rattle.sets.specs.Sets.{those}
 use Rattle.sets.specs.Sums.{sumOver}
 use Rattle.meaning.specs.Rules.{count, fits}
@@ -18,14 +19,16 @@ use Rattle.book.specs.Content.{Content}
 use Rattle.book.specs.Grown.{symbolsOf}
 use Rattle.book.specs.Limits.{mostRules, mostBytes}
 use Rattle.book.specs.Meant.{rulesOf}
-use Rattle.format.specs.Format.{Meaning, means, meaningOf, fields, follow, ended, fieldAt, fieldOf, headAt, ruleField, outcome, judgeRule, judgeSymbol, firstOf, judgeSymbols}
+use Rattle.format.specs.Format.{means, meaningOf, fields, follow, ended, fieldAt, fieldOf, headAt, ruleField, outcome, judgeRule, judgeSymbol, firstOf, judgeSymbols}
 use Rattle.lent.specs.Lent.{lent}
-use Rattle.promised.specs.Promise.{numberOf as numberBuilt, valueOf as valueBuilt, Builds, Answers, builds, Promise}
+use Rattle.promised.specs.Promise.{numberOf as numberBuilt, valueOf as valueBuilt, Promise}
 use Rattle.promised.specs.declared.Built.{Built}
+use Rattle.promised.proofs.AsBefore.{of-sound}
 use Rattle.lines.specs.declared.Line.the-variants.{Broken}
-use Rattle.lines.specs.Lines.{split, linesOf, lastFrom, numberFrom, countOf, lineOf, onLine}
+use Rattle.lines.specs.Lines.{split, linesOf, lastFrom, numberFrom, countOf, lineOf}
 use Rattle.lines.specs.Written.{startOf}
 use Rattle.lines.specs.Profile.{AllSound, FirstBroken, counts}
+use Rattle.lines.proofs.First.{areSound, are-sound}
 use Rattle.listed.proofs.Whole.{built}
 use Rattle.shares.specs.Below.{sumBelow}
 use Rattle.shares.specs.Shares.{limit, tabulate}
@@ -51,35 +54,13 @@ four-meant : meaningOf fourRules ≡ means four
 unfolding meaningOf fields follow ended fieldAt fieldOf headAt ruleField outcome judgeRule judgeSymbols judgeSymbol firstOf symbolsOf
 four-meant = refl
 
-built-of : {a : Content} {m : Meaning} {old b : Five} {i v : ℕ} → m ≡ means a → Answers old m b i v → Builds (rulesOf a) old b i v
-built-of {a} {old = old} {b} {i} {v} e p = go (subst (λ (m : Meaning). Answers old m b i v) e p)
-  where
-    go : {b : Five} {i v : ℕ} → Answers old (means a) b i v → Builds (rulesOf a) old b i v
-    go (builds q) = q
-
 four-tables : (found b : Five) (x : Built) → Promise fourRules found b x → numberBuilt x ≡ 0 → Tables (rulesOf four) b (valueBuilt x) × (valueBuilt x ≤ lent b)
-four-tables found b x p z = built (built-of four-meant p) z
+four-tables found b x p z = built (of-sound four four-meant p) z
 
 four-few : count (rulesOf four) ≤ mostRules
 four-few = omega arith
 
 -- ---- what is tested of a profile and a record
-
-unfoldable isBytes : List ℕ → Bool
-isBytes [] = true
-isBytes (c ∷ t) = ltb c 256 && isBytes t
-
-bytes-of : (t : List ℕ) → isBytes t ≡ true → ByteText t
-unfolding isBytes
-bytes-of [] x i = omega arith
-bytes-of (c ∷ t) x zero = ltb-true c 256 (and-eq-true-iff (ltb c 256) (isBytes t) .0 x .0)
-bytes-of (c ∷ t) x (suc i) = bytes-of t (and-eq-true-iff (ltb c 256) (isBytes t) .0 x .1) i
-
-abbrev areSound : List (List ℕ) → Bool
-areSound ls = below (length ls) (λ i. onLine (lineOf (getD ls i [])) (λ stack count. true) false)
-
-are-sound : (ls : List (List ℕ)) → T (areSound ls) → AllSound ls
-are-sound ls x i l e = rw e at (below-at (length ls) (λ i. onLine (lineOf (getD ls i [])) (λ stack count. true) false) x i l)
 
 -- the record has room, and the profile is of bytes, not too long, and of sound lines
 abbrev isFit : List ℕ → LeafTotals → Bool
@@ -100,7 +81,7 @@ fit profile old x =
       room = ltb-true (old .profiles) mostProfiles room;
       bytes = bytes-of profile bytes;
       short = leb-true (length profile) mostBytes short;
-      sound = are-sound (linesOf profile) (subst T (sym sound) tt);
+      sound = are-sound (linesOf profile) sound;
     }
 
 -- the total after it is within the limit
@@ -211,7 +192,7 @@ abbrev to : ℕ → ℕ → Filed
 to p k = record { place = p; count = k }
 
 pub leaf-cases : LeafCasesHold
-unfolding isBytes below split lastFrom numberFrom countOf lineOf startOf those fits fitsAll familyIn sumOver sumBelow tabulate
+unfolding isBytes areSound below split lastFrom numberFrom countOf lineOf startOf those fits fitsAll familyIn sumOver sumBelow tabulate
 leaf-cases =
     also (adding sixLeaves emptyTotals (to 1 3 ∷ to 0 2 ∷ to 2 5 ∷ to 256 7 ∷ to 256 11 ∷ to 256 13 ∷ []) refl refl (record { files = refl; totals = tt; most = refl }) shares-41)
     (also (adding threeLeaves emptyTotals (to 1 4 ∷ to 256 4 ∷ to 0 1 ∷ []) refl refl (record { files = refl; totals = tt; most = refl }) shares-9)

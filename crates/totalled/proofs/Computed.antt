@@ -11,6 +11,7 @@ use borrow.Author.Tests.{lt-ltb, ltb-true}
 use Rattle.rows.specs.Rows.{ByteText}
 use Rattle.sets.specs.Sets.{those}
 use Rattle.sets.specs.Sums.{sumOver}
+use Rattle.sets.proofs.First.{LowestFrom, first-those}
 use Rattle.meaning.specs.Rules.{Rules, count, size, fits}
 use Rattle.meaning.specs.Tables.{Five, Tables}
 use Rattle.meaning.specs.Occurrences.{FitsWhole}
@@ -18,11 +19,10 @@ use Rattle.book.specs.Limits.{mostRules}
 use Rattle.lent.specs.Lent.{lent}
 use Rattle.lines.specs.Lines.{linesOf}
 use Rattle.lines.specs.Profile.{countIn}
+use Rattle.lines.proofs.Bytes.{frame-bytes}
 use Rattle.leaf.specs.Leaf.{unnamed}
 use Rattle.totalled.specs.Adding.{leafIn, familyOver, countsOf}
 use Rattle.totalled.specs.Families.{IsFamily}
-use Rattle.totalled.proofs.First.{LowestFrom, first-those}
-use Rattle.totalled.proofs.Bytes.{leaf-bytes}
 use Rattle.totalled.proofs.Families.{one-family, is-family, families}
 
 -- ---- a rule that fits a whole leaf
@@ -126,7 +126,7 @@ sum-filed f g h (l ∷ ls) e = rw (e 0 (omega arith), sum-filed f g h ls (λ i m
 
 pub counts-filed : {r : Rules} {b : Five} {n : ℕ} → Tables r b n → n ≤ lent b → count r ≤ mostRules → (profile : List ℕ) → ByteText profile → (p : ℕ)
     → countsOf b n p profile ≡ filedAt p (filed r profile)
-counts-filed {r} {b} {n} tables lends few profile bytes p = sum-filed _ _ _ (linesOf profile) (λ i l. rw (family-of (leafIn (getD (linesOf profile) i [])) (leaf-bytes profile bytes i)))
+counts-filed {r} {b} {n} tables lends few profile bytes p = sum-filed _ _ _ (linesOf profile) (λ i l. rw (family-of (leafIn (getD (linesOf profile) i [])) (frame-bytes profile bytes i _)))
   where
     family-of : (leaf : List ℕ) → ByteText leaf → familyOver b n leaf ≡ familyIn r leaf
     family-of leaf t = one-family r leaf (familyOver b n leaf) (familyIn r leaf) (families r b n tables lends few leaf t) (family-in r leaf few)

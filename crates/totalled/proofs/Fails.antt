@@ -1,54 +1,28 @@
 -- The pass over the leaves ends at the first leaf whose walk is refused with 13, at that byte, and gets through where there is none. Assumes nothing.
-use Prim.Native.Nat.{ℕ, zero, suc, _+_, _-_, _≤_}
-use mathlib.Core.List.{List, [], _∷_}
+use Prim.Native.Nat.{ℕ, _+_, _-_}
 use mathlib.Core.Logic.{_≢_}
 use mathlib.Core.Path.{_≡_, _∙_}
 use native.Mathlib.Nat.{add-assoc}
 use native.Mathlib.Omega.{arith}
-use lib.ListN.{length, getD, take, length-take}
-use Rattle.sets.specs.Sums.{sumOver}
+use lib.ListN.{length}
 use Rattle.answers.specs.Walked.{numberOf}
-use Rattle.lines.specs.declared.Line.{Line}
-use Rattle.lines.specs.declared.Line.the-variants.{Sound, Broken}
 use Rattle.lines.specs.declared.Pass.the-variants.{Through, Ends}
-use Rattle.lines.specs.Lines.{lf, semicolon, linesOf, framesOf, lineOf, onLine}
+use Rattle.lines.specs.Lines.{linesOf}
 use Rattle.lines.specs.Written.{startOf}
 use Rattle.lines.specs.Profile.{framesIn}
-use Rattle.lines.proofs.Lines.{bytesIn, split-bytes}
+use Rattle.lines.proofs.Sizes.{frame-le}
 use Rattle.lines.proofs.First.{pass-through, pass-first}
 use Rattle.leaves.specs.Totals.{leafPass, leavesPass}
 use Rattle.totalled.specs.Adding.{AddCall, leafIn, leafFrom, lineAt, leafWalk, FirstFails, NoneFails, Begins}
 use Rattle.totalled.proofs.Leaves.{pass-by-end}
 use Rattle.totalled.proofs.Walked.{leaf-fails, leaf-kept}
 
--- ---- a leaf is no longer than the profile
-
-piece-le : (ps : List (List ℕ)) (i : ℕ) → length (getD ps i []) ≤ bytesIn ps
-unfolding sumOver
-piece-le [] i = omega arith
-piece-le (p ∷ ps) zero = omega arith
-piece-le (p ∷ ps) (suc i) = omega (arith, piece-le ps i)
-
-frames-le : (line : List ℕ) → bytesIn (framesIn line) ≤ length line
-unfolding sumOver
-frames-le line = go (lineOf line)
-  where
-    go : (l : Line) → bytesIn (onLine l (λ stack count. framesOf (take stack line)) []) ≤ length line
-    go (Sound stack count) = omega (arith, split-bytes semicolon ([] ∷ []) (take stack line), length-take stack line)
-    go Broken = omega arith
-
-leaf-le : (profile : List ℕ) (i : ℕ) → length (leafIn (getD (linesOf profile) i [])) ≤ length profile
-unfolding sumOver
-leaf-le profile i =
-    let line = getD (linesOf profile) i [] in
-    omega (arith, piece-le (framesIn line) (length (framesIn line) - 1), frames-le line, piece-le (linesOf profile) i, split-bytes lf [] profile)
-
 module _ (w : AddCall) (x : Begins w) where
   -- a line whose leaf's walk is not refused with 13
   keeps : (i at : ℕ) → numberOf (leafWalk w i) ≢ 13 → leafPass (w .tables) (w .n) at (lineAt w i) ≡ Through
   keeps i at ne =
       pass-by-end (w .tables) (w .n) at (lineAt w i)
-      ∙ leaf-kept (w .tables) (w .n) (x .lends) (x .some) (leafIn (lineAt w i)) (omega (arith, leaf-le (w .profile) i, x .short)) _ ne
+      ∙ leaf-kept (w .tables) (w .n) (x .lends) (x .some) (leafIn (lineAt w i)) (omega (arith, frame-le (w .profile) i (length (framesIn (lineAt w i)) - 1), x .short)) _ ne
 
   pub none-fails : NoneFails w → leavesPass (w .tables) (w .n) (w .profile) ≡ Through
   unfolding leavesPass
@@ -60,6 +34,6 @@ module _ (w : AddCall) (x : Begins w) where
       let lines = linesOf (w .profile) in
       let s = startOf 0 lines i in
       let line = lineAt w i in
-      let here = leaf-fails (w .tables) (w .n) (x .lends) (x .some) (leafIn line) (omega (arith, leaf-le (w .profile) i, x .short)) (λ k. Ends (s + (leafFrom line + k))) c (f .fails) (f .byte) in
+      let here = leaf-fails (w .tables) (w .n) (x .lends) (x .some) (leafIn line) (omega (arith, frame-le (w .profile) i (length (framesIn (lineAt w i)) - 1), x .short)) (λ k. Ends (s + (leafFrom line + k))) c (f .fails) (f .byte) in
       pass-first (leafPass (w .tables) (w .n)) lines 0 i (f .line) (pass-by-end (w .tables) (w .n) s line ∙ here) (λ k m. keeps k _ (f .before k m))
       ∙ rw add-assoc

@@ -29,19 +29,19 @@ use Rattle.lines.specs.declared.Line.{Line}
 use Rattle.lines.specs.declared.Line.the-variants.{Sound, Broken}
 use Rattle.lines.specs.Lines.{linesOf, lineOf}
 use Rattle.lines.specs.Profile.{AllSound, FirstBroken, counts}
+use Rattle.lines.proofs.Bytes.{frame-bytes}
 use Rattle.shares.specs.Shares.{limit}
 use Rattle.one_byte.specs.declared.Moved.{Moved}
 use Rattle.one_byte.specs.Move.{moveOf}
 use Rattle.listed.proofs.Demands.{moves, matches}
 use Rattle.listed.proofs.Whole.{built}
 use Rattle.leaf.specs.Leaf.{endFrom, endOf, onEnd, unnamed, lowestOf, familyAt}
+use Rattle.leaf.proofs.InBoth.{lowest-first}
 use Rattle.leaf_totals.specs.Record.{mostProfiles, wholeIn}
 use Rattle.leaf_totals.specs.Totalled.{numberOf}
 use Rattle.totalled.specs.Adding.{AddCall, comesTo, AddAnswers, lineAt, leafIn, NoneFails, familyOver, Begins, AddRefusals}
 use Rattle.totalled.specs.Families.{IsFamily, OneFamily, Families, Named, Names}
 use Rattle.totalled.proofs.Adding.{add-refuses}
-use Rattle.totalled.proofs.Bytes.{leaf-bytes}
-use Rattle.totalled.proofs.First.{lowest-first}
 use Rattle.totalled.proofs.Whole.{both-fits, fits-held, fits-live, fits-out}
 
 pub one-family : OneFamily
@@ -139,7 +139,7 @@ module _ {r : Rules} (w : AddCall) (tables : Tables r (w .tables) (w .n)) (lends
 
   pub none-fails : NoneFails w
   none-fails i l =
-      matches r (record { tables = w .tables; n = w .n; text = leafIn (lineAt w i); reports = [] }) (record { tables = tables; few = few; bytes = leaf-bytes (w .profile) bytes i })
+      matches r (record { tables = w .tables; n = w .n; text = leafIn (lineAt w i); reports = [] }) (record { tables = tables; few = few; bytes = frame-bytes (w .profile) bytes i _ })
       .demand2 .undamaged
 
   module _ (x : AddRefusals w) where

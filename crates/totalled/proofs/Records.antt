@@ -7,26 +7,23 @@ use native.Mathlib.Omega.{arith}
 use lib.ListN.{getD}
 use borrow.Author.Tests.{lt-ltb, le-ltb}
 use lib.Dec.{ltb}
+use Rattle.sets.proofs.Zeros.{zero-at}
 use Rattle.book.specs.Limits.{mostRules}
 use Rattle.shares.specs.Below.{sumBelow}
 use Rattle.shares.specs.Shares.{allPlaces, tabulate, amountAt}
-use Rattle.shares.proofs.Below.{sum-next, sum-same, sum-plus}
-use Rattle.shares.proofs.Tables.{getD-table, getD-zeros}
+use Rattle.shares.proofs.Below.{sum-next, sum-same, sum-plus, zeros-below}
+use Rattle.shares.proofs.Tables.{getD-table, total-tabulate, getD-zeros}
 use Rattle.leaf_totals.specs.declared.LeafTotals.{LeafTotals}
 use Rattle.leaf.specs.Leaf.{unnamed}
 use Rattle.leaf_totals.specs.Record.{totalAt, totalsIn, wholeIn, emptyTotals}
 use Rattle.leaves.specs.Totals.{withParts}
-use Rattle.leaves.proofs.EachPlace.{zeros-below}
 use Rattle.totalled.specs.Adding.{WholeIs}
 
 -- ---- the total
 
-whole-by-place : (t : LeafTotals) → wholeIn t ≡ sumBelow (totalAt t) allPlaces
-whole-by-place t = sum-same (amountAt (totalsIn t)) (totalAt t) allPlaces (λ p h. getD-table allPlaces (totalAt t) p 0 h)
-
 pub whole-is : WholeIs
 whole-is t =
-    whole-by-place t ∙ sum-next (totalAt t) mostRules
+    total-tabulate (totalAt t) ∙ sum-next (totalAt t) mostRules
     ∙ ap₂ _+_ (sum-same (totalAt t) (λ k. getD (t .totals) k 0) mostRules (λ p h. rw (lt-ltb p unnamed h))) refl
 
 -- ---- parts joined
@@ -46,8 +43,8 @@ module _ (t : LeafTotals) (part : ℕ → ℕ) where
 
   pub joined-whole : wholeIn (withParts t part) ≡ wholeIn t + sumBelow part allPlaces
   joined-whole =
-      whole-by-place (withParts t part) ∙ sum-same (totalAt (withParts t part)) (λ p. totalAt t p + part p) allPlaces joined-at
-      ∙ sum-plus (totalAt t) part allPlaces ∙ ap (λ (k : ℕ). k + sumBelow part allPlaces) (sym (whole-by-place t))
+      total-tabulate (totalAt (withParts t part)) ∙ sum-same (totalAt (withParts t part)) (λ p. totalAt t p + part p) allPlaces joined-at
+      ∙ sum-plus (totalAt t) part allPlaces ∙ ap (λ (k : ℕ). k + sumBelow part allPlaces) (sym (total-tabulate (totalAt t)))
 
   pub joined-profiles : withParts t part .profiles ≡ t .profiles + 1
   unfolding withParts
@@ -59,8 +56,8 @@ pub empty-totals : (p : ℕ) → totalAt emptyTotals p ≡ 0
 empty-totals p = go (ltb p unnamed)
   where
     go : (b : Bool) → cond b (getD (emptyTotals .totals) p 0) 0 ≡ 0
-    go true = getD-zeros mostRules p
+    go true = zero-at mostRules p
     go false = refl
 
 pub empty-whole : wholeIn emptyTotals ≡ 0
-empty-whole = whole-by-place emptyTotals ∙ sum-same (totalAt emptyTotals) (λ p. 0) allPlaces (λ p h. empty-totals p) ∙ zeros-below allPlaces
+empty-whole = total-tabulate (totalAt emptyTotals) ∙ zeros-below (totalAt emptyTotals) allPlaces (λ p h. empty-totals p)

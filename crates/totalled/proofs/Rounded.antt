@@ -2,20 +2,13 @@
 use mathlib.Core.Logic.{_⊎_, inl, inr}
 use mathlib.Core.List.{List}
 use mathlib.Core.Path.{_≡_, sym, ap₂, _∙_}
-use Prim.Native.Nat.{ℕ, zero, suc, _+_, _≤_, _<_}
-use native.Mathlib.Nat.{add-zero, add-suc}
+use Prim.Native.Nat.{ℕ, _+_, _≤_, _<_}
 use native.Mathlib.Omega.{arith}
 use Rattle.shares.specs.Below.{sumBelow}
 use Rattle.shares.specs.Shares.{allPlaces, limit, floorOf, remainderOf, amountAt, totalOf}
 use Rattle.shares.specs.Demands.{share, floor, Ahead, Shared}
-use Rattle.shares.proofs.Below.{sum-none, sum-next}
+use Rattle.shares.proofs.Below.{sum-none, sum-next, sum-zeros}
 use Rattle.shares.proofs.Demands.{demands}
-
--- terms that are 0 add nothing
-sum-zeros : (f : ℕ → ℕ) (m n : ℕ) → ((i : ℕ) → m ≤ i → i < m + n → f i ≡ 0) → sumBelow f (m + n) ≡ sumBelow f m
-unfolding sumBelow
-sum-zeros f m zero z = rw add-zero
-sum-zeros f m (suc n) z = rw add-suc (omega (arith, sum-zeros f m n (λ i h l. z i h (omega arith)), z (m + n) (omega arith) (omega arith)))
 
 -- a sum of just the first four and the last
 sum-ends : (f : ℕ → ℕ) → ((i : ℕ) → 4 ≤ i → i < 256 → f i ≡ 0) → sumBelow f allPlaces ≡ f 0 + f 1 + f 2 + f 3 + f 256

@@ -2,3 +2,4 @@
 pub mod Laws
 pub mod Rows
 pub mod Room
+pub mod Stops

@@ -1,14 +1,12 @@
--- The first of those with a test, and the lowest rule in two sets. Assumes nothing.
-use mathlib.Core.Bool.{Bool, true, false, _&&_}
+-- The first of those with a test. Assumes nothing.
+use mathlib.Core.Bool.{Bool, true, false}
 use mathlib.Core.Logic.{⊎-elim}
 use mathlib.Core.Path.{_≡_, refl}
 use Prim.Native.Nat.{ℕ, zero, suc, _+_, _≤_, _<_}
 use native.Mathlib.Nat.{eq-or-lt-of-le}
 use native.Mathlib.Omega.{arith}
 use lib.ListN.{getD}
-use Rattle.sets.specs.Sets.{has, keep, those}
-use Rattle.book.specs.Limits.{mostRules}
-use Rattle.leaf.specs.Leaf.{lowestOf}
+use Rattle.sets.specs.Sets.{keep, those}
 
 -- x is the first with p from i on, or the end e where there is none
 pub record LowestFrom (p : ℕ → Bool) (i e x : ℕ) : Type 0 where
@@ -28,7 +26,3 @@ first-those p i (suc n) e q = go (p i) refl (first-those p (suc i) n e (omega ar
       passes = r .passes;
       before = λ k g l. ⊎-elim (λ (z : i ≡ k). rw (← z) h) (λ (z : i < k). r .before k z l) (eq-or-lt-of-le g);
     }
-
-pub lowest-first : (live out : ℕ) → LowestFrom (λ k. has live k && has out k) 0 mostRules (lowestOf live out)
-unfolding lowestOf
-lowest-first live out = first-those (λ k. has live k && has out k) 0 mostRules mostRules (omega arith)

@@ -1,19 +1,18 @@
 -- The leaf of a line by where the walk of its last frame ends. Assumes nothing.
 use mathlib.Core.Bool.{cond}
 use mathlib.Core.List.{List}
-use mathlib.Core.Path.{_≡_, refl, ap}
+use mathlib.Core.Path.{_≡_, refl}
 use Prim.Native.Nat.{ℕ, _+_}
 use lib.Dec.{eqb}
 use lib.ListN.{length}
 use Rattle.meaning.specs.Tables.{Five}
 use Rattle.one_byte.specs.Move.{moveOf}
 use Rattle.lines.specs.declared.Pass.the-variants.{Through, Ends}
+use Rattle.lines.proofs.First.{not-through}
 use Rattle.leaf.specs.declared.Ended.{Ended}
 use Rattle.leaf.specs.declared.Ended.the-variants.{InRow, AtByte}
 use Rattle.leaf.specs.declared.Leaf.the-variants.{Counts, Fails}
 use Rattle.leaf.specs.Leaf.{leafOf, leafStart, endOf, onEnd, unnamed, familyAt, stackLeaf, onLeaf}
-use native.Mathlib.Omega.{arith}
-use Rattle.lines.specs.declared.Pass.{Pass}
 
 module _ {A : Type 0} (b : Five) (n : ℕ) (f : ℕ → ℕ → A) (g : ℕ → A) where
   pub stack-by-end : (stack : List ℕ) (count : ℕ) → onLeaf (stackLeaf b n stack count) f g
@@ -25,14 +24,6 @@ module _ {A : Type 0} (b : Five) (n : ℕ) (f : ℕ → ℕ → A) (g : ℕ → 
           ≡ onEnd e (λ row. f (familyAt (b .held) (b .live) (b .out) row (length (leafOf stack))) count) (λ at. g (leafStart stack + at))
       go (InRow row) = refl
       go (AtByte at) = refl
-
--- a pass that ends does not get through
-abbrev endings : Pass → ℕ
-endings Through = 0
-endings (Ends at) = 1
-
-pub not-through : {A : Type 0} {at : ℕ} → Ends at ≡ Through → A
-not-through e = absurd (omega (arith, ap endings e))
 
 -- A count at the place of a row's family is there by the family, where the walk gets through.
 pub kept-end : (e : Ended) (family : ℕ → ℕ) (p count : ℕ) (fails : ℕ → ℕ) → onEnd e (λ row. Through) (λ i. Ends (fails i)) ≡ Through

@@ -11,10 +11,10 @@ use lib.ListN.{length}
 use Rattle.sets.specs.Sums.{sumOver}
 use Rattle.sets.proofs.Sums.{sum-le}
 use Rattle.meaning.specs.Tables.{Five}
-use Rattle.lines.specs.declared.Pass.{Pass}
 use Rattle.lines.specs.declared.Pass.the-variants.{Through, Ends}
-use Rattle.lines.specs.Lines.{linesOf, onPass, passOver}
+use Rattle.lines.specs.Lines.{linesOf, passOver}
 use Rattle.lines.specs.Profile.{countIn, counts}
+use Rattle.lines.proofs.First.{not-through, both-through}
 use Rattle.shares.specs.Below.{sumBelow}
 use Rattle.shares.specs.Shares.{allPlaces}
 use Rattle.shares.proofs.Below.{sum-plus, zeros-below}
@@ -23,7 +23,6 @@ use Rattle.leaf.specs.declared.Leaf.the-variants.{Counts, Fails}
 use Rattle.leaf.specs.Leaf.{lineLeaf, onLeaf}
 use Rattle.leaves.specs.Totals.{leafPass, leavesPass, lineAdds, profileAdds}
 use Rattle.leaf.proofs.Place.{OnePlace, line-placed}
-use Rattle.leaf.proofs.Stacks.{not-through}
 
 -- ---- no place has more than the counts
 
@@ -63,10 +62,6 @@ module _ (q c : ℕ) where
   ]
 
 -- ---- a pass that gets through adds all the counts
-
-pub both-through : (a b : Pass) → onPass a b ≡ Through → (a ≡ Through) × (b ≡ Through)
-both-through Through b e = (refl, e)
-both-through (Ends at) b e = not-through e
 
 module _ (b : Five) (n : ℕ) where
   line-adds-all : (at : ℕ) (line : List ℕ) → leafPass b n at line ≡ Through → sumBelow (λ p. lineAdds b n p line) allPlaces ≡ countIn line

@@ -3,16 +3,28 @@ use Prim.Native.Nat.{ℕ, zero, suc, _+_, _<_}
 use mathlib.Core.Bool.{Bool, true, false, false≢true}
 use mathlib.Core.List.{List, [], _∷_}
 use mathlib.Core.Logic.{_≢_}
-use mathlib.Core.Path.{_≡_, refl}
+use mathlib.Core.Path.{_≡_, refl, ap}
 use native.Mathlib.Omega.{arith}
 use lib.ListN.{length, getD}
 use Rattle.lines.specs.declared.Line.{Line}
 use Rattle.lines.specs.declared.Line.the-variants.{Sound, Broken}
 use Rattle.lines.specs.declared.Pass.{Pass}
 use Rattle.lines.specs.declared.Pass.the-variants.{Through, Ends}
-use Rattle.lines.specs.Lines.{linesOf, passOver, lineOf, onLine, lineCheck, checkOf}
+use Rattle.lines.specs.Lines.{linesOf, onPass, passOver, lineOf, onLine, lineCheck, checkOf}
 use Rattle.lines.specs.Written.{startOf}
 use Rattle.lines.specs.Profile.{AllSound, FirstBroken}
+
+-- a pass that ends does not get through
+abbrev endings : Pass → ℕ
+endings Through = 0
+endings (Ends at) = 1
+
+pub not-through : {A : Type 0} {at : ℕ} → Ends at ≡ Through → A
+not-through e = absurd (omega (arith, ap endings e))
+
+pub both-through : (a b : Pass) → onPass a b ≡ Through → (a ≡ Through) × (b ≡ Through)
+both-through Through b e = (refl, e)
+both-through (Ends at) b e = not-through e
 
 module _ (each : ℕ → List ℕ → Pass) where
   -- piece i lets the pass through

@@ -16,7 +16,7 @@ use Rattle.rows.proofs.Compare.{less, equal, more, order}
 use Rattle.sets.specs.Sets.{has, members, reports as pairs}
 use Rattle.sets.proofs.Laws.{has-setWhere}
 use Rattle.sets.proofs.Members.{reports-length}
-use Rattle.meaning.specs.Rules.{Rules, count, size, stands}
+use Rattle.meaning.specs.Rules.{Rules, count, size, stands, Fits}
 use Rattle.meaning.specs.Standing.{ends, out}
 use Rattle.meaning.proofs.Fitting.{stands-iff}
 use Rattle.meaning.specs.Occurrences.{Occurs, Lists}
@@ -44,6 +44,16 @@ has-out r t k =
     let b = and-eq-true-iff (ltb k (count r)) (ends r t k) in (
       λ h. let (l, x) = b .0 (sym (has-setWhere (count r) k (ends r t)) ∙ h) in (ltb-true k (count r) l, x),
       λ (l, x). has-setWhere (count r) k (ends r t) ∙ b .1 (lt-ltb k (count r) l, x),
+    )
+
+-- a rule ends where all of its symbols fit
+pub ends-iff : (r : Rules) (t : List ℕ) (k : ℕ) → (ends r t k ≡ true) ↔ (1 ≤ size r k) × Fits r t k (size r k)
+unfolding ends
+ends-iff r t k =
+    let b = and-eq-true-iff (ltb 0 (size r k)) (stands r t k (size r k)) in
+    let s = stands-iff r t k (size r k) in (
+      λ h. let (some, x) = b .0 h in (ltb-true 0 (size r k) some, s .0 x),
+      λ (some, f). b .1 (lt-ltb 0 (size r k) some, s .1 f),
     )
 
 -- those of one byte, and those of the rest
@@ -131,24 +141,17 @@ module _ (r : Rules) (text : List ℕ) (e k : ℕ) (h : e ≤ length text) where
       reverse-at (take e text) (size r k) i l (omega arith) ∙ rw n (getD-take e text (e - size r k + i) 0 (omega arith))
 
   occurs-ends : Occurs r text e k → ends r back k ≡ true
-  unfolding ends
   occurs-ends x =
-      and-eq-true-iff (ltb 0 (size r k)) (stands r back k (size r k)) .1 (
-        lt-ltb 0 (size r k) (x .some),
-        stands-iff r back k (size r k) .1 (record {
-          bytes = omega (arith, back-length, x .starts);
-          symbols = omega arith;
-          each = λ i l. rw (back-at i l (x .starts)) (x .each i l);
-        }),
+      ends-iff r back k .1 (
+        x .some,
+        record { bytes = omega (arith, back-length, x .starts); symbols = omega arith; each = λ i l. rw (back-at i l (x .starts)) (x .each i l) },
       )
 
   ends-occurs : k < count r → ends r back k ≡ true → Occurs r text e k
-  unfolding ends
   ends-occurs l x =
-      let (some, y) = and-eq-true-iff (ltb 0 (size r k)) (stands r back k (size r k)) .0 x in
-      let f = stands-iff r back k (size r k) .0 y in
+      let (some, f) = ends-iff r back k .0 x in
       let s : size r k ≤ e = omega (arith, back-length, f .bytes) in
-      record { rule = l; some = ltb-true 0 (size r k) some; starts = s; ends = h; each = λ i l. rw (back-at i l s) at (f .each i l) }
+      record { rule = l; some = some; starts = s; ends = h; each = λ i l. rw (back-at i l s) at (f .each i l) }
 
 pub ending-occurs : (r : Rules) (text : List ℕ) (e k : ℕ) → Ending r 0 [] text e k ↔ Occurs r text e k
 ending-occurs r text e k = (

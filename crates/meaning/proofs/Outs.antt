@@ -19,7 +19,7 @@ use Rattle.meaning.proofs.Held.{held-above, live-level}
 use Rattle.meaning.proofs.Shorter.{shorter, shorter-low, shorter-high}
 
 -- (k, j) is in the standing just where k is in level j
-has-level : (r : Rules) (t : List ℕ) (k j : ℕ) → k < count r → has (level r t j) k ≡ stands r t k j
+pub has-level : (r : Rules) (t : List ℕ) (k j : ℕ) → k < count r → has (level r t j) k ≡ stands r t k j
 unfolding level
 has-level r t k j h = has-in (count r) k (λ i. stands r t i j) h
 

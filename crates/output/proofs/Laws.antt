@@ -2,13 +2,14 @@
 use mathlib.Core.List.{List, [], _∷_, _++_}
 use mathlib.Core.Path.{_≡_, refl, sym, ap, ap₂, _∙_}
 use Prim.Native.Nat.{ℕ, zero, suc, _+_, _-_, _/_, _%_, _^_, _≤_, _<_}
-use native.Mathlib.Nat.{add-zero, pow-suc, one-le-pow, pow-le-pow-right}
+use native.Mathlib.Nat.{pow-suc, one-le-pow, pow-le-pow-right}
 use native.Mathlib.Decide.{decLt}
 use native.Mathlib.Numerals.{unary-clauses}
 use native.Mathlib.Omega.{arith}
 use borrow.Author.Tests.{lt-ltb, le-ltb}
-use lib.ListN.{length, set, length-append}
+use lib.ListN.{length, length-append}
 use lib.Seq.{sets, length-sets, set-out}
+use Rattle.sets.proofs.Members.{sets-append}
 use Rattle.io.specs.Digits.{glyph, digits, Fewest}
 use Rattle.output.specs.Printed.{Puts, numeral, numeralIn}
 
@@ -18,11 +19,6 @@ use Rattle.output.specs.Printed.{Puts, numeral, numeralIn}
 pub sets-past : (vs l : List ℕ) (i : ℕ) → length l ≤ i → sets l i vs ≡ l
 sets-past [] l i h = refl
 sets-past (v ∷ vs) l i h = ap (λ m. sets m (suc i) vs) (set-out l i v h) ∙ sets-past vs l (suc i) (omega arith)
-
--- one run behind another
-sets-append : (xs ys l : List ℕ) (i : ℕ) → sets l i (xs ++ ys) ≡ sets (sets l i xs) (i + length xs) ys
-sets-append [] ys l i = rw (add-zero i) refl
-sets-append (x ∷ xs) ys l i = sets-append xs ys (set l i x) (suc i) ∙ ap (λ k. sets (sets (set l i x) (suc i) xs) k ys) (omega arith)
 
 pub puts-none : {l : List ℕ} {at : ℕ} → Puts [] l at l at
 puts-none = record { filled = refl; behind = omega arith }
@@ -37,13 +33,13 @@ puts-append {xs} {ys} {l₀} {l₁} {l₂} {at} {r₁} {r₂} p q = record {
     long = ap length (p .filled) ∙ length-sets l₀ at xs
 
     fits : length xs ≤ length l₀ - at → sets (sets l₀ at xs) r₁ ys ≡ sets l₀ at (xs ++ ys)
-    fits m = let e : r₁ ≡ at + length xs = omega (arith, p .behind) in rw e (sym (sets-append xs ys l₀ at))
+    fits m = let e : r₁ ≡ at + length xs = omega (arith, p .behind) in rw e (sym (sets-append l₀ xs ys at))
 
     full : length l₀ - at < length xs → sets (sets l₀ at xs) r₁ ys ≡ sets l₀ at (xs ++ ys)
     full m =
         let end = length-sets l₀ at xs in
         sets-past ys (sets l₀ at xs) r₁ (omega (arith, p .behind, end))
-        ∙ sym (sets-append xs ys l₀ at ∙ sets-past ys (sets l₀ at xs) (at + length xs) (omega (arith, end)))
+        ∙ sym (sets-append l₀ xs ys at ∙ sets-past ys (sets l₀ at xs) (at + length xs) (omega (arith, end)))
 
 -- ---- a number's digits
 

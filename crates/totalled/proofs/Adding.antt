@@ -17,7 +17,7 @@ use Rattle.lines.specs.declared.Pass.{Pass}
 use Rattle.lines.specs.declared.Pass.the-variants.{Through, Ends}
 use Rattle.lines.specs.Lines.{linesOf, passOver, checkOf}
 use Rattle.lines.specs.Profile.{AllSound, countIn, counts}
-use Rattle.lines.proofs.First.{checked, broken-at}
+use Rattle.lines.proofs.First.{both-through, checked, broken-at}
 use Rattle.shares.specs.Shares.{allPlaces, limit}
 use Rattle.shares.proofs.Demands.{demands}
 use Rattle.leaf_totals.specs.declared.LeafTotals.{LeafTotals}
@@ -26,8 +26,8 @@ use Rattle.leaf_totals.specs.declared.Totalled.the-variants.{Accepted, Full, To
 use Rattle.leaf_totals.specs.Record.{mostProfiles, totalAt, totalsIn, wholeIn}
 use Rattle.leaf_totals.specs.Totalled.{numberOf, valueOf}
 use Rattle.leaves.specs.Totals.{leafPass, leavesPass, lineAdds, profileAdds, withParts, afterPass, addAnswer, recordAfter}
-use Rattle.leaves.proofs.EachPlace.{both-through, adds-to-counts}
-use Rattle.totalled.specs.Adding.{AddCall, comesTo, recordLeft, AddAnswers, leafIn, familyOver, countsOf, Begins, AddRefuses, AddsUp, callOf, start, next, RunsAddUp, SharesFair}
+use Rattle.leaves.proofs.EachPlace.{adds-to-counts}
+use Rattle.totalled.specs.Adding.{AddCall, comesTo, recordLeft, AddAnswers, leafIn, NoneFails, familyOver, countsOf, Begins, AddRefuses, AddsUp, callOf, start, next, RunsAddUp, SharesFair}
 use Rattle.totalled.proofs.Leaves.{line-adds-is}
 use Rattle.totalled.proofs.Fails.{none-fails, fails-at}
 use Rattle.totalled.proofs.Records.{joined-at, joined-whole, joined-profiles, empty-totals, empty-whole}
@@ -104,6 +104,15 @@ module _ (w : AddCall) where
       → comesTo w .answer ≡ afterPass q (λ at. BadLine at) (afterPass r (λ at. Damaged at) (cond (ltb limit whole) Past Accepted))
   unfolding addAnswer
   answer-is x e f = rw (lt-leb mostProfiles (w .old .profiles) (x .few), le-ltb mostBytes (length (w .profile)) (x .short), rows-lent (w .tables) (w .n) (x .some) (x .lends), e, f)
+
+  not-damaged : (q : Pass) (t : Bool) → numberOf (afterPass q (λ at. BadLine at) (cond t Past Accepted)) ≢ 13
+  not-damaged (Ends at) t = λ z. omega arith
+  not-damaged Through true = λ z. omega arith
+  not-damaged Through false = λ z. omega arith
+
+  -- where no walk fails
+  pub none-damaged : Begins w → NoneFails w → numberOf (comesTo w .answer) ≢ 13
+  none-damaged x h = rw (answer-is x refl (none-fails w x h)) (not-damaged (checkOf (w .profile)) (ltb limit whole))
 
   -- where the lines are sound and no walk fails, by whether the total is past the limit
   through : Begins w → AllSound (linesOf (w .profile)) → leavesPass (w .tables) (w .n) (w .profile) ≡ Through → {t : Bool} → ltb limit whole ≡ t

@@ -1,13 +1,13 @@
 -- The families of leaves over the tables of rules, and over the buffers that a build of a book left. Assumes nothing.
 use mathlib.Core.Bool.{Bool, true, false, cond, and-eq-true-iff, true≢false}
 use mathlib.Core.List.{List, [], _∷_, reverse, reverseAux}
-use mathlib.Core.Logic.{_⊎_, inl, inr, _≢_}
+use mathlib.Core.Logic.{_≢_}
 use mathlib.Core.Path.{_≡_, refl, sym, _∙_}
-use Prim.Native.Nat.{ℕ, zero, suc, _+_, _≤_, _<_}
+use Prim.Native.Nat.{ℕ, suc, _+_, _≤_, _<_}
 use native.Mathlib.Omega.{arith}
 use native.Mathlib.Decide.{decLt}
 use lib.Dec.{eqb}
-use lib.ListN.{length, getD}
+use lib.ListN.{length}
 use borrow.Author.Tests.{eqb-true, eqb-false}
 use Rattle.rows.specs.Rows.{ByteText, IsRow}
 use Rattle.rows.proofs.Compare.{less, equal, more, order}
@@ -25,10 +25,8 @@ use Rattle.format.proofs.Sizes.{lawful}
 use Rattle.reader.proofs.Numbers.{numbered}
 use Rattle.lent.specs.Lent.{lent}
 use Rattle.promised.specs.Promise.{Answers, builds, refuses}
-use Rattle.lines.specs.declared.Line.{Line}
-use Rattle.lines.specs.declared.Line.the-variants.{Sound, Broken}
-use Rattle.lines.specs.Lines.{linesOf, lineOf}
-use Rattle.lines.specs.Profile.{AllSound, FirstBroken, counts}
+use Rattle.lines.specs.Lines.{linesOf}
+use Rattle.lines.specs.Profile.{AllSound, counts}
 use Rattle.lines.proofs.Bytes.{frame-bytes}
 use Rattle.shares.specs.Shares.{limit}
 use Rattle.one_byte.specs.declared.Moved.{Moved}
@@ -41,7 +39,7 @@ use Rattle.leaf_totals.specs.Record.{mostProfiles, wholeIn}
 use Rattle.leaf_totals.specs.Totalled.{numberOf}
 use Rattle.totalled.specs.Adding.{AddCall, comesTo, AddAnswers, lineAt, leafIn, NoneFails, familyOver, Begins, AddRefusals}
 use Rattle.totalled.specs.Families.{IsFamily, OneFamily, Families, Named, Names}
-use Rattle.totalled.proofs.Adding.{add-refuses}
+use Rattle.totalled.proofs.Adding.{none-damaged, add-refuses}
 use Rattle.totalled.proofs.Whole.{both-fits, fits-held, fits-live, fits-out}
 
 pub one-family : OneFamily
@@ -114,24 +112,6 @@ families r b n tables lends few leaf bytes = rw (family-is tables lends few leaf
 
 -- ---- from a book's bytes
 
--- all lines are sound, or one is the first that is not
-sound-or-broken : (ls : List (List ℕ)) → AllSound ls ⊎ ((i : ℕ) × FirstBroken ls i)
-sound-or-broken [] = inl (λ i l. absurd (omega arith))
-sound-or-broken (line ∷ ls) = go (lineOf line) refl (sound-or-broken ls)
-  where
-    go : (x : Line) → lineOf line ≡ x → AllSound ls ⊎ ((i : ℕ) × FirstBroken ls i) → AllSound (line ∷ ls) ⊎ ((i : ℕ) × FirstBroken (line ∷ ls) i)
-    go Broken e rest = inr (0, record { below = omega arith; broken = e; before = λ j l. absurd (omega arith) })
-    go (Sound stack count) e (inl sound) = inl each
-      where
-        each : AllSound (line ∷ ls)
-        each zero l q = let z : _≡_ {A = ℕ} 0 1 = cc in omega arith
-        each (suc i) l q = sound i (omega arith) q
-    go (Sound stack count) e (inr (i, f)) = inr (suc i, record { below = omega (arith, f .below); broken = f .broken; before = each })
-      where
-        each : (j : ℕ) → j < suc i → lineOf (getD (line ∷ ls) j []) ≢ Broken
-        each zero l q = let z : _≡_ {A = ℕ} 0 1 = cc in omega arith
-        each (suc j) l q = f .before j (omega arith) q
-
 -- a call over the tables of rules, with a profile of bytes
 module _ {r : Rules} (w : AddCall) (tables : Tables r (w .tables) (w .n)) (lends : w .n ≤ lent (w .tables)) (few : count r ≤ mostRules) (bytes : ByteText (w .profile)) where
   pub begins : w .old .profiles < mostProfiles → length (w .profile) ≤ mostBytes → Begins w
@@ -149,14 +129,6 @@ module _ {r : Rules} (w : AddCall) (tables : Tables r (w .tables) (w .n)) (lends
     other : {number value : ℕ} → AddAnswers w number value → number ≢ 13 → numberOf (comesTo w .answer) ≢ 13
     other a ne = rw (a .number-is) ne
 
-    begun : Begins w → AllSound (linesOf (w .profile)) ⊎ ((i : ℕ) × FirstBroken (linesOf (w .profile)) i) → numberOf (comesTo w .answer) ≢ 13
-    begun y (inl sound) =
-        elim (decLt limit (wholeIn (w .old) + counts (w .profile))) [
-          | yes l ↦ other (x .past y sound none-fails l) (λ z. omega arith)
-          | no g ↦ other (x .accepted y sound none-fails (omega arith)) (λ z. omega arith)
-        ]
-    begun y (inr (i, f)) = other (x .bad-line y i f) (λ z. omega arith)
-
     undamaged : numberOf (comesTo w .answer) ≢ 13
     undamaged =
         elim (decLt (w .old .profiles) mostProfiles) [
@@ -164,7 +136,7 @@ module _ {r : Rules} (w : AddCall) (tables : Tables r (w .tables) (w .n)) (lends
           | yes room ↦
               elim (decLt mostBytes (length (w .profile))) [
                 | yes l ↦ other (x .too-long room l) (λ z. omega arith)
-                | no g ↦ begun (begins room (omega arith)) (sound-or-broken (linesOf (w .profile)))
+                | no g ↦ none-damaged w (begins room (omega arith)) none-fails
               ]
         ]
 

@@ -11,7 +11,7 @@ use Rattle.lines.proofs.Lines.{piece-length}
 use Rattle.shares.specs.Shares.{allPlaces}
 use Rattle.leaves.specs.Totals.{leafPass, leavesPass}
 use Rattle.leaf.proofs.Lines.{fails-within}
-use Rattle.leaf.proofs.Stacks.{not-through}
+use Rattle.lines.proofs.First.{not-through}
 use Rattle.leaves.proofs.Counting.{Counted, counted-none, counted-all, place-there, count-fits, counted-next, leaf-turn, leaves-end}
 use Rattle.leaves.proofs.count_lines.Statement.{statement}
 use Rattle.leaves.proofs.count_lines.Tie as tie

@@ -10,12 +10,12 @@ use lib.Dec.{ltb}
 use Rattle.sets.proofs.Zeros.{zero-at}
 use Rattle.book.specs.Limits.{mostRules}
 use Rattle.shares.specs.Below.{sumBelow}
-use Rattle.shares.specs.Shares.{allPlaces, tabulate, amountAt}
+use Rattle.shares.specs.Shares.{allPlaces, tabulate}
 use Rattle.shares.proofs.Below.{sum-next, sum-same, sum-plus, zeros-below}
-use Rattle.shares.proofs.Tables.{getD-table, total-tabulate, getD-zeros}
+use Rattle.shares.proofs.Tables.{getD-table, total-tabulate}
 use Rattle.leaf_totals.specs.declared.LeafTotals.{LeafTotals}
 use Rattle.leaf.specs.Leaf.{unnamed}
-use Rattle.leaf_totals.specs.Record.{totalAt, totalsIn, wholeIn, emptyTotals}
+use Rattle.leaf_totals.specs.Record.{totalAt, wholeIn, emptyTotals}
 use Rattle.leaves.specs.Totals.{withParts}
 use Rattle.totalled.specs.Adding.{WholeIs}
 

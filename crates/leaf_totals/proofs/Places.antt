@@ -6,9 +6,11 @@ use native.Mathlib.Omega.{arith}
 use borrow.Author.Tests.{lt-ltb}
 use lib.ListN.{getD, set}
 use Rattle.book.specs.Limits.{mostRules}
-use Rattle.shares.specs.Shares.{allPlaces, tabulate, amountAt}
+use Rattle.book.specs.Content.{table}
+use Rattle.shares.specs.Shares.{allPlaces, amountAt}
 use Rattle.shares.proofs.Below.{sum-at}
-use Rattle.shares.proofs.Tables.{getD-table, Filled, filled-next, filled-all}
+use Rattle.book.proofs.Tables.{getD-table}
+use Rattle.shares.proofs.Tables.{Filled, filled-next, filled-all}
 use Rattle.leaf_totals.specs.declared.LeafTotals.{LeafTotals}
 use Rattle.leaf_totals.specs.Record.{totalAt, totalsIn, wholeIn}
 
@@ -16,7 +18,7 @@ pub total-family : (t : LeafTotals) (k : ℕ) → k < mostRules → totalAt t k 
 total-family t k h = rw (lt-ltb k mostRules h)
 
 -- a list that is filled with its last place
-pub filled-end : {f : ℕ → ℕ} {n i k x : ℕ} {l : List ℕ} → i ≡ k → k + 1 ≡ n → x ≡ f k → Filled f n i l → set l k x ≡ tabulate n f
+pub filled-end : {f : ℕ → ℕ} {n i k x : ℕ} {l : List ℕ} → i ≡ k → k + 1 ≡ n → x ≡ f k → Filled f n i l → set l k x ≡ table n f
 filled-end e s d w = filled-all (filled-next (omega arith) d (rw e at w)) s
 
 -- no total is larger than that of the record

@@ -5,7 +5,8 @@ use Prim.Native.Nat.{ℕ}
 use lib.Dec.{ltb}
 use lib.ListN.{getD, replicate}
 use Rattle.book.specs.Limits.{mostRules}
-use Rattle.shares.specs.Shares.{allPlaces, tabulate, totalOf}
+use Rattle.book.specs.Content.{table}
+use Rattle.shares.specs.Shares.{allPlaces, totalOf}
 use Rattle.leaf_totals.specs.declared.LeafTotals.{LeafTotals}
 
 -- the most profiles of a record
@@ -18,7 +19,7 @@ totalAt t p = cond (ltb p mostRules) (getD (t .totals) p 0) (t .unnamed)
 
 -- all of its totals, unnamed last
 abbrev pub totalsIn : LeafTotals → List ℕ
-totalsIn t = tabulate allPlaces (totalAt t)
+totalsIn t = table allPlaces (totalAt t)
 
 -- the record's total
 abbrev pub wholeIn : LeafTotals → ℕ

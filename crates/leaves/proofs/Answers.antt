@@ -14,8 +14,10 @@ use Rattle.lines.specs.declared.Pass.{Pass}
 use Rattle.lines.specs.declared.Pass.the-variants.{Through, Ends}
 use Rattle.lines.specs.Lines.{checkOf}
 use Rattle.lines.specs.Profile.{counts}
-use Rattle.shares.specs.Shares.{allPlaces, limit, tabulate, amountAt, totalOf}
-use Rattle.shares.proofs.Tables.{getD-table, tabulate-same, total-tabulate}
+use Rattle.book.specs.Content.{table}
+use Rattle.shares.specs.Shares.{allPlaces, limit, amountAt, totalOf}
+use Rattle.book.proofs.Tables.{getD-table}
+use Rattle.shares.proofs.Tables.{table-same, total-table}
 use Rattle.leaf_totals.specs.declared.LeafTotals.{LeafTotals}
 use Rattle.leaf_totals.specs.declared.Totalled.{Totalled}
 use Rattle.leaf_totals.specs.declared.Totalled.the-variants.{Accepted, Full, TooLong, BadRows, BadLine, Damaged, Past}
@@ -29,11 +31,11 @@ use Rattle.leaves.proofs.EachPlace.{adds-to-counts}
 
 -- ---- parts that agree
 
-with-same : (t : LeafTotals) (f : ℕ → ℕ) → withParts t (amountAt (tabulate allPlaces f)) ≡ withParts t f
+with-same : (t : LeafTotals) (f : ℕ → ℕ) → withParts t (amountAt (table allPlaces f)) ≡ withParts t f
 unfolding withParts
 with-same t f =
-    let each : (k : ℕ) → k < allPlaces → amountAt (tabulate allPlaces f) k ≡ f k = λ k h. getD-table allPlaces f k 0 h in
-    let totals = tabulate-same mostRules (λ k. totalAt t k + amountAt (tabulate allPlaces f) k) (λ k. totalAt t k + f k) (λ k h. ap (λ x. totalAt t k + x) (each k (omega arith))) in
+    let each : (k : ℕ) → k < allPlaces → amountAt (table allPlaces f) k ≡ f k = λ k h. getD-table allPlaces f k 0 h in
+    let totals = table-same mostRules (λ k. totalAt t k + amountAt (table allPlaces f) k) (λ k. totalAt t k + f k) (λ k h. ap (λ x. totalAt t k + x) (each k (omega arith))) in
     rw (totals, each unnamed (omega arith))
 
 -- ---- refusals
@@ -85,5 +87,5 @@ module _ (b : Five) (n : ℕ) (profile : List ℕ) (t : LeafTotals) where
             by (Ends at) z = answered (begun e ∙ ap go (pass-is z))
             by Through z =
                 let parts = k .parts-are z in
-                let whole = ap totalOf parts ∙ total-tabulate (λ p. profileAdds b n p profile) ∙ adds-to-counts b n profile (pass-is z) in
+                let whole = ap totalOf parts ∙ total-table (λ p. profileAdds b n p profile) ∙ adds-to-counts b n profile (pass-is z) in
                 rw (whole, ap (λ l. withParts t (amountAt l)) parts ∙ with-same t (λ p. profileAdds b n p profile)) (parted (ltb limit (wholeIn t + counts profile)) ∙ answered (begun e ∙ ap go (pass-is z)))

@@ -16,8 +16,9 @@ use Rattle.lines.specs.declared.Pass.the-variants.{Through, Ends}
 use Rattle.lines.specs.Lines.{lf, split, linesOf, upTo, onPass, passOver}
 use Rattle.lines.proofs.Lines.{piece, lines-step, lines-pass, lines-end}
 use Rattle.lines.proofs.Counts.{counts-fit}
-use Rattle.shares.specs.Shares.{allPlaces, tabulate, amountAt}
-use Rattle.shares.proofs.Tables.{is-table}
+use Rattle.book.specs.Content.{table}
+use Rattle.shares.specs.Shares.{allPlaces, amountAt}
+use Rattle.book.proofs.Tables.{is-table}
 use Rattle.leaf.specs.declared.Leaf.{Leaf}
 use Rattle.leaf.specs.declared.Leaf.the-variants.{Counts}
 use Rattle.leaf.specs.Leaf.{lineLeaf, onLeaf}
@@ -39,7 +40,7 @@ module _ (b : Five) (n : ℕ) (profile : List ℕ) where
   unfolding profileAdds
   counted-none = record { long = length-replicate {A = ℕ} allPlaces 0; each = λ p h. omega (arith, zero-at allPlaces p) }
 
-  pub counted-all : {at : ℕ} {parts : List ℕ} → length profile ≤ at → Counted at parts → parts ≡ tabulate allPlaces (λ p. profileAdds b n p profile)
+  pub counted-all : {at : ℕ} {parts : List ℕ} → length profile ≤ at → Counted at parts → parts ≡ table allPlaces (λ p. profileAdds b n p profile)
   unfolding split sumOver
   counted-all {at} {parts} h c =
       is-table allPlaces (λ p. profileAdds b n p profile) parts (c .long) (λ p l. omega (arith, c .each p l, none p))

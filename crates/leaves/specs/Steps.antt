@@ -7,7 +7,8 @@ use lib.Dec.{ltb}
 use Rattle.meaning.specs.Tables.{Five}
 use Rattle.lines.specs.declared.Pass.{Pass}
 use Rattle.lines.specs.declared.Pass.the-variants.{Through, Ends}
-use Rattle.shares.specs.Shares.{allPlaces, limit, tabulate, amountAt, totalOf}
+use Rattle.book.specs.Content.{table}
+use Rattle.shares.specs.Shares.{allPlaces, limit, amountAt, totalOf}
 use Rattle.leaf_totals.specs.declared.LeafTotals.{LeafTotals}
 use Rattle.leaf_totals.specs.declared.Totalled.{Totalled}
 use Rattle.leaf_totals.specs.declared.Totalled.the-variants.{Accepted, Damaged, Past}
@@ -19,7 +20,7 @@ use Rattle.leaves.specs.Totals.{leavesPass, profileAdds, withParts}
 -- a pass over a profile's leaves, and, where it gets through, what the profile adds to each place
 pub record CountedLines (b : Five) (n : ℕ) (profile : List ℕ) (r : Parts) : Type 0 where
   pub passes : r .pass ≡ leavesPass b n profile
-  pub parts-are : r .pass ≡ Through → r .parts ≡ tabulate allPlaces (λ p. profileAdds b n p profile)
+  pub parts-are : r .pass ≡ Through → r .parts ≡ table allPlaces (λ p. profileAdds b n p profile)
 
 -- a record that has room for one profile more, and each of its totals for the part
 pub record TakesParts (t : LeafTotals) (parts : List ℕ) : Type 0 where

@@ -13,7 +13,8 @@ use Rattle.lines.specs.declared.Pass.the-variants.{Through, Ends}
 use Rattle.lines.specs.Lines.{linesOf, passOver, checkOf}
 use Rattle.lines.specs.Profile.{counts}
 use Rattle.shares.specs.declared.Shares.{Shares}
-use Rattle.shares.specs.Shares.{limit, tabulate, sharesOf}
+use Rattle.book.specs.Content.{table}
+use Rattle.shares.specs.Shares.{limit, sharesOf}
 use Rattle.leaf_totals.specs.declared.LeafTotals.{LeafTotals}
 use Rattle.leaf_totals.specs.declared.Totalled.{Totalled}
 use Rattle.leaf_totals.specs.declared.Totalled.the-variants.{Accepted, Full, TooLong, BadRows, BadLine, Damaged, Past}
@@ -43,7 +44,7 @@ module _ (b : Five) (n : ℕ) where
 
 -- the record with so much more at each place, and one profile more
 unfoldable pub withParts : LeafTotals → (ℕ → ℕ) → LeafTotals
-withParts t part = record { totals = tabulate mostRules (λ k. totalAt t k + part k); unnamed = totalAt t unnamed + part unnamed; profiles = t .profiles + 1 }
+withParts t part = record { totals = table mostRules (λ k. totalAt t k + part k); unnamed = totalAt t unnamed + part unnamed; profiles = t .profiles + 1 }
 
 -- ---- a call
 

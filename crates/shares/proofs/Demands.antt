@@ -10,20 +10,21 @@ use lib.ListN.{length, getD, replicate, length-replicate, List·getD-eq-default}
 use borrow.Author.Tests.{lt-ltb, le-ltb}
 use Rattle.sets.proofs.Zeros.{zero-at}
 use Rattle.shares.specs.declared.Shares.{Shares}
-use Rattle.shares.specs.Shares.{allPlaces, limit, floorOf, remainderOf, shareIn, tabulate, amountAt, totalOf, partsShared, sharesOf}
+use Rattle.book.specs.Content.{table}
+use Rattle.shares.specs.Shares.{allPlaces, limit, floorOf, remainderOf, shareIn, amountAt, totalOf, partsShared, sharesOf}
 use Rattle.shares.specs.Demands.{share, remainder, Ahead, Shared, Demanded, Demands}
 use Rattle.shares.proofs.Below.{sum-same}
 use Rattle.shares.proofs.Ranks.{Before, larger, lower}
 use Rattle.shares.proofs.Laws.{shares-add, shares-only, share-exact, share-rounded, share-ahead}
 use Rattle.shares.proofs.Cases.{is-past, is-nothing, is-given}
-use Rattle.shares.proofs.Tables.{length-table, getD-table}
+use Rattle.book.proofs.Tables.{length-table, getD-table}
 
 module _ (totals : List ℕ) where
   abbrev whole : ℕ
   whole = totalOf totals
 
   abbrev given : List ℕ
-  given = tabulate allPlaces (shareIn (amountAt totals) allPlaces whole)
+  given = table allPlaces (shareIn (amountAt totals) allPlaces whole)
 
   parts-of : {s : Shares} → s ≡ sharesOf totals → partsShared totals ≡ s .parts
   parts-of e = sym (ap (λ (s : Shares). s .parts) e)

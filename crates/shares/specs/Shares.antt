@@ -1,10 +1,12 @@
 -- Shares of a total in thousandths: each rounded down, then one more each to the largest remainders. Assumes nothing.
 use mathlib.Core.Bool.{Bool, cond}
-use mathlib.Core.List.{List, [], _∷_}
+use mathlib.Core.List.{List}
 use mathlib.Core.Path.{_≡_}
-use Prim.Native.Nat.{ℕ, zero, suc, _+_, _-_, _*_, _/_, _%_, _≤_, _<_}
+use Prim.Native.Nat.{ℕ, _+_, _-_, _*_, _/_, _%_, _≤_, _<_}
 use lib.Dec.{ltb, eqb}
 use lib.ListN.{getD, replicate}
+use Rattle.book.specs.Content.{table}
+use Rattle.book.specs.Limits.{mostRules}
 use Rattle.shares.specs.declared.Divided.{Divided}
 use Rattle.shares.specs.declared.Divided.the-variants.{Given, Past}
 use Rattle.shares.specs.declared.Shares.{Shares}
@@ -13,7 +15,7 @@ use Rattle.shares.specs.Ranks.{rank}
 
 -- 256 families, and unnamed last
 abbrev pub allPlaces : ℕ
-allPlaces = 257
+allPlaces = mostRules + 1
 
 -- the largest total that is shared
 abbrev pub limit : ℕ
@@ -40,11 +42,6 @@ module _ (t : ℕ → ℕ) (n whole : ℕ) where
   abbrev pub shareIn : ℕ → ℕ
   shareIn i = floorOf whole (t i) + oneIf (getsOne i)
 
--- f 0, f 1, .. : n of them
-unfoldable pub tabulate : ℕ → (ℕ → ℕ) → List ℕ
-tabulate zero f = []
-tabulate (suc n) f = f zero ∷ tabulate n (λ k. f (suc k))
-
 -- total i
 abbrev pub amountAt : List ℕ → ℕ → ℕ
 amountAt totals i = getD totals i 0
@@ -67,7 +64,7 @@ abbrev pub partsShared : List ℕ → List ℕ
 partsShared totals =
     cond (ltb limit (totalOf totals)) (replicate allPlaces 0)
     (cond (eqb (totalOf totals) 0) (replicate allPlaces 0)
-    (tabulate allPlaces (shareIn (amountAt totals) allPlaces (totalOf totals))))
+    (table allPlaces (shareIn (amountAt totals) allPlaces (totalOf totals))))
 
 abbrev pub sharesOf : List ℕ → Shares
 sharesOf totals = record { answer = shareAnswer totals; parts = partsShared totals }

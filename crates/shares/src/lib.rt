@@ -1,17 +1,19 @@
 // Shares of a total in thousandths: each rounded down, then the missing thousandths one each to the largest remainders.
+use book::Book;
 ghost use mathlib.Core.Path.{_≡_};
 ghost use mathlib.Core.Bool.{_||_, _&&_};
 ghost use Prim.Native.Nat.{_+_, _≤_, _<_, min};
 ghost use lib.Dec.{ltb, eqb};
 ghost use Rattle.moments.specs.Moments.{was};
 ghost use Rattle.shares.specs.Ranks.{rank};
-ghost use Rattle.shares.specs.Shares.{allPlaces, limit, floorOf, remainderOf, missing, shareIn, tabulate, amountAt, totalOf, ToShare, sharesOf, numberOf, valueOf};
+ghost use Rattle.book.specs.Content.{table};
+ghost use Rattle.shares.specs.Shares.{allPlaces, limit, floorOf, remainderOf, missing, shareIn, amountAt, totalOf, ToShare, sharesOf, numberOf, valueOf};
 
 // The largest total that is shared.
 pub const LIMIT: u64 = 9007199254740991;
 
 // 256 families, and unnamed last.
-pub const PLACES: usize = 257;
+pub const PLACES: usize = Book::RULES + 1;
 
 // Whether the shares are given, or the total is past the limit.
 pub enum Divided {
@@ -139,7 +141,7 @@ fn part(totals: &[u64; PLACES], whole: u64, lacking: u64, i: usize) -> u16
 // The shares of a whole.
 fn share_out(totals: &[u64; PLACES], whole: u64) -> [u16; PLACES]
     requires { ⌜ ToShare (now totals) whole ⌝ }
-    ensures { λ r. ⌜ r ≡ tabulate allPlaces (shareIn (amountAt (was totals)) allPlaces whole) ⌝ }
+    ensures { λ r. ⌜ r ≡ table allPlaces (shareIn (amountAt (was totals)) allPlaces whole) ⌝ }
 {
     let lacking = count_missing(totals, whole);
     let mut parts: [u16; PLACES] = [0; PLACES];

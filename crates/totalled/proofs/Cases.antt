@@ -31,7 +31,8 @@ use Rattle.lines.specs.Profile.{AllSound, FirstBroken, counts}
 use Rattle.lines.proofs.First.{areSound, are-sound}
 use Rattle.listed.proofs.Whole.{built}
 use Rattle.shares.specs.Below.{sumBelow}
-use Rattle.shares.specs.Shares.{limit, tabulate}
+use Rattle.book.specs.Content.{table}
+use Rattle.shares.specs.Shares.{limit}
 use Rattle.shares.proofs.Demands.{demands}
 use Rattle.leaf_totals.specs.declared.LeafTotals.{LeafTotals}
 use Rattle.leaf_totals.specs.Record.{mostProfiles, totalAt, totalsIn, wholeIn, emptyTotals}
@@ -192,7 +193,7 @@ abbrev to : ℕ → ℕ → Filed
 to p k = record { place = p; count = k }
 
 pub leaf-cases : LeafCasesHold
-unfolding isBytes areSound below split lastFrom numberFrom countOf lineOf startOf those fits fitsAll familyIn sumOver sumBelow tabulate
+unfolding isBytes areSound below split lastFrom numberFrom countOf lineOf startOf those fits fitsAll familyIn sumOver sumBelow table
 leaf-cases =
     also (adding sixLeaves emptyTotals (to 1 3 ∷ to 0 2 ∷ to 2 5 ∷ to 256 7 ∷ to 256 11 ∷ to 256 13 ∷ []) refl refl (record { files = refl; totals = tt; most = refl }) shares-41)
     (also (adding threeLeaves emptyTotals (to 1 4 ∷ to 256 4 ∷ to 0 1 ∷ []) refl refl (record { files = refl; totals = tt; most = refl }) shares-9)

@@ -9,7 +9,7 @@ use lib.ListN.{getD, List·getD-eq-default}
 use borrow.Author.Tests.{lt-ltb}
 use Rattle.shares.specs.Shares.{allPlaces, amountAt}
 use Rattle.shares.specs.Demands.{share}
-use Rattle.shares.proofs.Tables.{getD-table}
+use Rattle.book.proofs.Tables.{getD-table}
 use Rattle.leaf_totals.specs.declared.LeafTotals.{LeafTotals}
 use Rattle.leaf_totals.specs.Record.{totalAt, totalsIn}
 use Rattle.totalled.proofs.Rounded.{AtEnds, none-between}

@@ -18,7 +18,7 @@ use Rattle.lines.specs.Lines.{split, linesOf, passOver, lastFrom, numberFrom, c
 use Rattle.lines.specs.Written.{startOf}
 use Rattle.lines.specs.Profile.{AllSound}
 use Rattle.shares.specs.Below.{sumBelow}
-use Rattle.shares.specs.Shares.{tabulate}
+use Rattle.book.specs.Content.{table}
 use Rattle.leaf.specs.Leaf.{endFrom, endOf, lowestOf, familyAt, stackLeaf, lineLeaf}
 use Rattle.leaf_totals.specs.Record.{emptyTotals}
 use Rattle.leaves.specs.Totals.{leafPass, leavesPass, lineAdds, profileAdds, withParts, addAnswer}
@@ -60,17 +60,17 @@ lost-at-3 = losing (oneRow 65535 0 0) b-xa-1 (omega arith) (omega arith) (one-so
 -- ---- where a count goes
 
 pub not-met : LeafHolds (credits (oneRow 65535 0 0) a-b-1 0 1)
-unfolding split lastFrom numberFrom countOf lineOf lineCheck checkOf passOver sumOver sumBelow tabulate startOf lookAt moveIn moveFrom has those setOf rowSet rulesAt endFrom endOf lowestOf familyAt stackLeaf lineLeaf leafPass leavesPass lineAdds profileAdds withParts addAnswer
+unfolding split lastFrom numberFrom countOf lineOf lineCheck checkOf passOver sumOver sumBelow table startOf lookAt moveIn moveFrom has those setOf rowSet rulesAt endFrom endOf lowestOf familyAt stackLeaf lineLeaf leafPass leavesPass lineAdds profileAdds withParts addAnswer
 not-met = record { answers = record { number-is = refl; value-is = refl }; first-is = refl; unnamed-is = refl }
 
 pub empty-named : LeafHolds (credits (oneRow 0 0 1) empty-5 5 0)
-unfolding split lastFrom numberFrom countOf lineOf lineCheck checkOf passOver sumOver sumBelow tabulate startOf lookAt moveIn moveFrom has those setOf rowSet rulesAt endFrom endOf lowestOf familyAt stackLeaf lineLeaf leafPass leavesPass lineAdds profileAdds withParts addAnswer
+unfolding split lastFrom numberFrom countOf lineOf lineCheck checkOf passOver sumOver sumBelow table startOf lookAt moveIn moveFrom has those setOf rowSet rulesAt endFrom endOf lowestOf familyAt stackLeaf lineLeaf leafPass leavesPass lineAdds profileAdds withParts addAnswer
 empty-named = record { answers = record { number-is = refl; value-is = refl }; first-is = refl; unnamed-is = refl }
 
 pub one-byte : LeafHolds (credits (oneRow 0 1 1) b-1 1 0)
-unfolding split lastFrom numberFrom countOf lineOf lineCheck checkOf passOver sumOver sumBelow tabulate startOf lookAt moveIn moveFrom has those setOf rowSet rulesAt endFrom endOf lowestOf familyAt stackLeaf lineLeaf leafPass leavesPass lineAdds profileAdds withParts addAnswer
+unfolding split lastFrom numberFrom countOf lineOf lineCheck checkOf passOver sumOver sumBelow table startOf lookAt moveIn moveFrom has those setOf rowSet rulesAt endFrom endOf lowestOf familyAt stackLeaf lineLeaf leafPass leavesPass lineAdds profileAdds withParts addAnswer
 one-byte = record { answers = record { number-is = refl; value-is = refl }; first-is = refl; unnamed-is = refl }
 
 pub many-bytes : LeafHolds (credits (oneRow 0 1 1) b257-1 0 1)
-unfolding split lastFrom numberFrom countOf lineOf lineCheck checkOf passOver sumOver sumBelow tabulate startOf lookAt moveIn moveFrom has those setOf rowSet rulesAt endFrom endOf lowestOf familyAt stackLeaf lineLeaf leafPass leavesPass lineAdds profileAdds withParts addAnswer
+unfolding split lastFrom numberFrom countOf lineOf lineCheck checkOf passOver sumOver sumBelow table startOf lookAt moveIn moveFrom has those setOf rowSet rulesAt endFrom endOf lowestOf familyAt stackLeaf lineLeaf leafPass leavesPass lineAdds profileAdds withParts addAnswer
 many-bytes = record { answers = record { number-is = refl; value-is = refl }; first-is = refl; unnamed-is = refl }

@@ -10,9 +10,11 @@ use lib.Dec.{ltb}
 use Rattle.sets.proofs.Zeros.{zero-at}
 use Rattle.book.specs.Limits.{mostRules}
 use Rattle.shares.specs.Below.{sumBelow}
-use Rattle.shares.specs.Shares.{allPlaces, tabulate}
+use Rattle.book.specs.Content.{table}
+use Rattle.shares.specs.Shares.{allPlaces}
 use Rattle.shares.proofs.Below.{sum-next, sum-same, sum-plus, zeros-below}
-use Rattle.shares.proofs.Tables.{getD-table, total-tabulate}
+use Rattle.book.proofs.Tables.{getD-table}
+use Rattle.shares.proofs.Tables.{total-table}
 use Rattle.leaf_totals.specs.declared.LeafTotals.{LeafTotals}
 use Rattle.leaf.specs.Leaf.{unnamed}
 use Rattle.leaf_totals.specs.Record.{totalAt, wholeIn, emptyTotals}
@@ -23,7 +25,7 @@ use Rattle.totalled.specs.Adding.{WholeIs}
 
 pub whole-is : WholeIs
 whole-is t =
-    total-tabulate (totalAt t) ∙ sum-next (totalAt t) mostRules
+    total-table (totalAt t) ∙ sum-next (totalAt t) mostRules
     ∙ ap₂ _+_ (sum-same (totalAt t) (λ k. getD (t .totals) k 0) mostRules (λ p h. rw (lt-ltb p unnamed h))) refl
 
 -- ---- parts joined
@@ -33,18 +35,18 @@ module _ (t : LeafTotals) (part : ℕ → ℕ) where
   unfolding withParts
   joined-at p h = elim (decLt p unnamed) [
     | yes l ↦
-        ap (λ (b : Bool). cond b (getD (tabulate mostRules (λ k. totalAt t k + part k)) p 0) (totalAt t unnamed + part unnamed)) (lt-ltb p unnamed l)
+        ap (λ (b : Bool). cond b (getD (table mostRules (λ k. totalAt t k + part k)) p 0) (totalAt t unnamed + part unnamed)) (lt-ltb p unnamed l)
         ∙ getD-table mostRules (λ k. totalAt t k + part k) p 0 l
     | no l ↦
         let e : p ≡ unnamed = omega arith in
-        ap (λ (b : Bool). cond b (getD (tabulate mostRules (λ k. totalAt t k + part k)) p 0) (totalAt t unnamed + part unnamed)) (le-ltb p unnamed (omega arith))
+        ap (λ (b : Bool). cond b (getD (table mostRules (λ k. totalAt t k + part k)) p 0) (totalAt t unnamed + part unnamed)) (le-ltb p unnamed (omega arith))
         ∙ ap (λ (k : ℕ). totalAt t k + part k) (sym e)
   ]
 
   pub joined-whole : wholeIn (withParts t part) ≡ wholeIn t + sumBelow part allPlaces
   joined-whole =
-      total-tabulate (totalAt (withParts t part)) ∙ sum-same (totalAt (withParts t part)) (λ p. totalAt t p + part p) allPlaces joined-at
-      ∙ sum-plus (totalAt t) part allPlaces ∙ ap (λ (k : ℕ). k + sumBelow part allPlaces) (sym (total-tabulate (totalAt t)))
+      total-table (totalAt (withParts t part)) ∙ sum-same (totalAt (withParts t part)) (λ p. totalAt t p + part p) allPlaces joined-at
+      ∙ sum-plus (totalAt t) part allPlaces ∙ ap (λ (k : ℕ). k + sumBelow part allPlaces) (sym (total-table (totalAt t)))
 
   pub joined-profiles : withParts t part .profiles ≡ t .profiles + 1
   unfolding withParts
@@ -60,4 +62,4 @@ empty-totals p = go (ltb p unnamed)
     go false = refl
 
 pub empty-whole : wholeIn emptyTotals ≡ 0
-empty-whole = total-tabulate (totalAt emptyTotals) ∙ zeros-below (totalAt emptyTotals) allPlaces (λ p h. empty-totals p)
+empty-whole = total-table (totalAt emptyTotals) ∙ zeros-below (totalAt emptyTotals) allPlaces (λ p h. empty-totals p)

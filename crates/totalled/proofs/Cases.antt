@@ -37,12 +37,12 @@ use Rattle.shares.proofs.Demands.{demands}
 use Rattle.leaf_totals.specs.declared.LeafTotals.{LeafTotals}
 use Rattle.leaf_totals.specs.Record.{mostProfiles, totalAt, totalsIn, wholeIn, emptyTotals}
 use Rattle.totalled.specs.Adding.{AddCall, recordLeft, AddAnswers, Begins}
-use Rattle.totalled.specs.Cases.{fourRules, sixLeaves, threeLeaves, b-1, b-2, ab-01, fourTotals, adds, refuses, breaks, full, long, rows, AddedSo, RefusedSo, LeafHolds, none, also, LeafCasesHold}
+use Rattle.totalled.specs.Cases.{fourRules, sixLeaves, threeLeaves, b-1, b-2, ab-01, fourTotals, adds, refuses, breaks, full, unshared, long, rows, AddedSo, RefusedSo, LeafHolds, none, also, LeafCasesHold}
 use Rattle.totalled.proofs.Adding.{add-refuses}
 use Rattle.totalled.proofs.Families.{begins, none-fails}
 use Rattle.totalled.proofs.Computed.{fitsAll, familyIn, Filed, filed, filedAt, counts-filed}
 use Rattle.totalled.proofs.Rounded.{AtEnds, whole-is}
-use Rattle.totalled.proofs.Shared.{SharesAre, shares-41, shares-9, shares-50, shares-limit, shares-1}
+use Rattle.totalled.proofs.Shared.{SharesAre, shares-41, shares-9, shares-50, shares-limit, shares-1, shares-0}
 use Rattle.totalled.proofs.OneRow.{lost-at-0, lost-at-3, not-met, empty-named, one-byte, many-bytes}
 use Rattle.totalled.proofs.Four.{totalsAre, FourOf, four-first, at-ends, four-shares}
 
@@ -159,6 +159,12 @@ filling b n profile old e =
     let a = add-refuses w .full (omega arith) in
     record { answers = a; unaltered = add-refuses w .unaltered (λ z. omega (arith, a .number-is, z)) }
 
+unsharing : (t : LeafTotals) → ltb limit (wholeIn t) ≡ true → LeafHolds (unshared t 20 9007199254740991)
+unsharing t over =
+    let l = ltb-true limit (wholeIn t) over in
+    let (number, value) = demands (totalsIn t) .past l in
+    record { number-is = number; value-is = value; none = demands (totalsIn t) .past-none l }
+
 longer : LeafHolds (long 1048577 11 1048576)
 longer b n profile old e room =
     let w : AddCall = record { tables = b; n = n; profile = profile; old = old } in
@@ -202,6 +208,10 @@ leaf-cases =
     (also (passing b-2 (fourTotals 0 0 0 0 9007199254740990 1) refl refl)
     (also (adding b-1 (fourTotals 0 0 0 0 0 1023) (to 0 1 ∷ []) refl refl (record { files = refl; totals = tt; most = refl }) shares-1)
     (also filling
+    (also (adding [] emptyTotals [] refl refl (record { files = refl; totals = tt; most = refl }) shares-0)
+    (also (passing [] (fourTotals 0 0 0 0 9007199254740992 1) refl refl)
+    (also (unsharing (fourTotals 0 0 0 0 9007199254740992 1) refl)
+    (also (unsharing (fourTotals 9223372036854775808 9223372036854775808 0 0 0 1) refl)
     (also (breaking ab-01 (omega arith) first-broken)
     (also (breaking (b-2 ++ 10 ∷ ab-01) (omega arith) second-broken)
     (also longer
@@ -213,4 +223,4 @@ leaf-cases =
     (also empty-named
     (also one-byte
     (also many-bytes
-    none)))))))))))))))))
+    none)))))))))))))))))))))

@@ -93,3 +93,13 @@ pub shares-1 : (totals : List ℕ) → AtEnds totals 1 0 0 0 0 → SharesAre tot
 shares-1 totals x =
     let q : totalOf totals ≡ 1 = whole-is x in
     of-1 (adds-up x (omega arith) (omega arith)) (demands totals .none 1 (x .at1)) (demands totals .none 2 (x .at2)) (demands totals .none 3 (x .at3)) (demands totals .none 256 (x .last))
+
+-- nothing
+pub shares-0 : (totals : List ℕ) → AtEnds totals 0 0 0 0 0 → SharesAre totals 0 0 0 0 0
+shares-0 totals x = record {
+  first = demands totals .none 0 (x .at0);
+  second = demands totals .none 1 (x .at1);
+  third = demands totals .none 2 (x .at2);
+  fourth = demands totals .none 3 (x .at3);
+  last = demands totals .none 256 (x .last);
+}

@@ -94,6 +94,8 @@ pub data LeafCase : Type 0 where
   -- how many profiles a record has; the number and the value of the refusal, whatever else is handed over: also a profile that is too long or has a line that
   -- breaks the rules, and rows that are none or not lent
   full : ℕ → ℕ → ℕ → LeafCase
+  -- a record; the number and the value of the answer when its shares are asked for, which are all 0
+  unshared : LeafTotals → ℕ → ℕ → LeafCase
   -- how many bytes a profile has; the number and the value of the refusal, whatever else is handed over, if the record is not full
   long : ℕ → ℕ → ℕ → LeafCase
   -- how many rows are asked for, of tables that lend none; the number and the value of the refusal of any profile that is not too long for any record that is
@@ -118,6 +120,12 @@ leafCases =
     -- the last profile that a record takes, and one more
     ∷ adds b-1 (fourTotals 0 0 0 0 0 1023) (1 ∷ 0 ∷ 0 ∷ 0 ∷ []) 0 1024 (1000 ∷ 0 ∷ 0 ∷ 0 ∷ []) 0
     ∷ full 1024 21 1024
+    -- a profile without lines is one more, and of nothing all shares are 0; past the limit it is refused too
+    ∷ adds [] emptyTotals (0 ∷ 0 ∷ 0 ∷ 0 ∷ []) 0 1 (0 ∷ 0 ∷ 0 ∷ 0 ∷ []) 0
+    ∷ refuses [] (fourTotals 0 0 0 0 9007199254740992 1) 20 9007199254740991
+    -- one past the limit, and a record whose numbers would wrap to 0
+    ∷ unshared (fourTotals 0 0 0 0 9007199254740992 1) 20 9007199254740991
+    ∷ unshared (fourTotals 9223372036854775808 9223372036854775808 0 0 0 1) 20 9007199254740991
     -- a count with a zero in front, on the first line and on the second
     ∷ breaks ab-01 15 0
     ∷ breaks (b-2 ++ 10 ∷ ab-01) 15 4
@@ -153,6 +161,12 @@ pub record RefusedSo (w : AddCall) (number value : ℕ) : Type 0 where
   pub answers : AddAnswers w number value
   pub unaltered : recordLeft w ≡ w .old
 
+-- the shares of the record are not given, with this number and this value, and all are 0
+pub record UnsharedSo (t : LeafTotals) (number value : ℕ) : Type 0 where
+  pub number-is : numberShared (sharesIn t .answer) ≡ number
+  pub value-is : valueShared (sharesIn t .answer) ≡ value
+  pub none : (p : ℕ) → getD (sharesIn t .parts) p 0 ≡ 0
+
 -- it is accepted, and these are the first total and unnamed after it
 pub record CreditedSo (w : AddCall) (first unnamed : ℕ) : Type 0 where
   pub answers : AddAnswers w 0 0
@@ -169,6 +183,7 @@ LeafHolds (breaks profile number value) = (b : Five) (n : ℕ) (old : LeafTotals
     → RefusedSo (record { tables = b; n = n; profile = profile; old = old }) number value
 LeafHolds (full profiles number value) = (b : Five) (n : ℕ) (profile : List ℕ) (old : LeafTotals) → old .profiles ≡ profiles
     → RefusedSo (record { tables = b; n = n; profile = profile; old = old }) number value
+LeafHolds (unshared old number value) = UnsharedSo old number value
 LeafHolds (long bytes number value) = (b : Five) (n : ℕ) (profile : List ℕ) (old : LeafTotals) → length profile ≡ bytes → old .profiles < 1024
     → RefusedSo (record { tables = b; n = n; profile = profile; old = old }) number value
 LeafHolds (rows n number value) = (b : Five) (profile : List ℕ) (old : LeafTotals) → lent b ≡ 0 → length profile ≤ 1048576 → old .profiles < 1024

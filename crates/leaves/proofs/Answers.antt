@@ -4,7 +4,6 @@ use mathlib.Core.List.{List}
 use mathlib.Core.Path.{_≡_, refl, sym, ap, _∙_}
 use Prim.Native.Nat.{ℕ, _+_, _≤_, _<_}
 use native.Mathlib.Omega.{arith}
-use borrow.Author.Tests.{lt-ltb, le-ltb, le-leb, lt-leb}
 use lib.Dec.{ltb}
 use lib.ListN.{length}
 use Rattle.meaning.specs.Tables.{Five}
@@ -28,6 +27,7 @@ use Rattle.leaf_totals.specs.Record.{mostProfiles, totalAt, wholeIn}
 use Rattle.leaves.specs.Totals.{leavesPass, profileAdds, withParts, afterPass, addAnswer, recordAfter, addOf}
 use Rattle.leaves.specs.Steps.{CountedLines, grown, onParts, merged}
 use Rattle.leaves.proofs.EachPlace.{adds-to-counts}
+use Rattle.leaves.proofs.Order.{is-full, is-long, is-rowless, is-passed}
 
 -- ---- parts that agree
 
@@ -45,38 +45,30 @@ module _ (b : Five) (n : ℕ) (profile : List ℕ) (t : LeafTotals) where
   answered e = rw e
 
   pub add-full : mostProfiles ≤ t .profiles → record { answer = Full; back = t } ≡ addOf b n profile t
-  unfolding addAnswer
-  add-full h = answered (rw (le-leb mostProfiles (t .profiles) h))
+  add-full h = answered (is-full b n profile t h)
 
   module _ (few : t .profiles < mostProfiles) where
     pub add-long : mostBytes < length profile → record { answer = TooLong; back = t } ≡ addOf b n profile t
-    unfolding addAnswer
-    add-long h = answered (rw (lt-leb mostProfiles (t .profiles) few, lt-ltb mostBytes (length profile) h))
+    add-long h = answered (is-long b n profile t few h)
 
     module _ (short : length profile ≤ mostBytes) where
       pub add-rows : {s : Bool} → s ≡ hasRows b n → s ≡ false → record { answer = BadRows n; back = t } ≡ addOf b n profile t
-      unfolding addAnswer
-      add-rows h k = answered (rw (lt-leb mostProfiles (t .profiles) few, le-ltb mostBytes (length profile) short, sym h ∙ k))
+      add-rows h k = answered (is-rowless b n profile t few short (sym h ∙ k))
 
       module _ {s : Bool} {r : Pass} (h : s ≡ hasRows b n) (rows : s ≡ true) (p : r ≡ checkOf profile) where
-        begun : {q : Pass} → r ≡ q
-            → addAnswer b n profile t ≡ afterPass q (λ at. BadLine at) (afterPass (leavesPass b n profile) (λ at. Damaged at) (cond (ltb limit (wholeIn t + counts profile)) Past Accepted))
-        unfolding addAnswer
-        begun e = rw (lt-leb mostProfiles (t .profiles) few, le-ltb mostBytes (length profile) short, sym h ∙ rows, sym p ∙ e)
-
         pub add-line : {at : ℕ} → r ≡ Ends at → record { answer = BadLine at; back = t } ≡ addOf b n profile t
-        add-line e = answered (begun e)
+        add-line e = answered (is-passed b n profile t few short (sym h ∙ rows) (sym p ∙ e) refl)
 
         -- what was counted, merged
         pub add-counted : r ≡ Through → (c : Parts) → CountedLines b n profile c → {x : Handed} → x ≡ merged c t → x ≡ addOf b n profile t
         unfolding merged
         add-counted e c k m = m ∙ by (c .pass) refl
           where
-            go : Pass → Totalled
-            go q = afterPass q (λ at. Damaged at) (cond (ltb limit (wholeIn t + counts profile)) Past Accepted)
-
             pass-is : {q : Pass} → c .pass ≡ q → leavesPass b n profile ≡ q
             pass-is z = sym (k .passes) ∙ z
+
+            walked : {q : Pass} → c .pass ≡ q → addAnswer b n profile t ≡ afterPass q (λ at. Damaged at) (cond (ltb limit (wholeIn t + counts profile)) Past Accepted)
+            walked z = is-passed b n profile t few short (sym h ∙ rows) (sym p ∙ e) (pass-is z)
 
             parted : (past : Bool) → _≡_ {A = Handed} (cond past (record { answer = Past; back = t }) (record { answer = Accepted; back = withParts t (λ p. profileAdds b n p profile) }))
                 (record { answer = cond past Past Accepted; back = recordAfter (cond past Past Accepted) t (λ p. profileAdds b n p profile) })
@@ -84,8 +76,8 @@ module _ (b : Five) (n : ℕ) (profile : List ℕ) (t : LeafTotals) where
             parted false = refl
 
             by : (q : Pass) → c .pass ≡ q → onParts q (grown c t) t ≡ addOf b n profile t
-            by (Ends at) z = answered (begun e ∙ ap go (pass-is z))
+            by (Ends at) z = answered (walked z)
             by Through z =
                 let parts = k .parts-are z in
                 let whole = ap totalOf parts ∙ total-table (λ p. profileAdds b n p profile) ∙ adds-to-counts b n profile (pass-is z) in
-                rw (whole, ap (λ l. withParts t (amountAt l)) parts ∙ with-same t (λ p. profileAdds b n p profile)) (parted (ltb limit (wholeIn t + counts profile)) ∙ answered (begun e ∙ ap go (pass-is z)))
+                rw (whole, ap (λ l. withParts t (amountAt l)) parts ∙ with-same t (λ p. profileAdds b n p profile)) (parted (ltb limit (wholeIn t + counts profile)) ∙ answered (walked z))

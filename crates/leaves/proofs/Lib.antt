@@ -1,4 +1,5 @@
 pub mod EachPlace
 pub mod Counting
 pub mod Records
+pub mod Order
 pub mod Answers

@@ -5,7 +5,7 @@ use mathlib.Core.Logic.{_⊎_, inl, inr, _≢_}
 use mathlib.Core.Path.{_≡_, refl, ap, ap₂, _∙_}
 use Prim.Native.Nat.{ℕ, _+_, _≤_, _<_}
 use native.Mathlib.Omega.{arith}
-use borrow.Author.Tests.{lt-ltb, le-ltb, ltb-false, lt-leb, le-leb, leb-false}
+use borrow.Author.Tests.{lt-ltb, le-ltb, ltb-false, leb-false}
 use lib.Dec.{leb, ltb, eqb}
 use lib.ListN.{length}
 use Rattle.sets.specs.Sums.{sumOver}
@@ -27,6 +27,7 @@ use Rattle.leaf_totals.specs.Record.{mostProfiles, totalAt, totalsIn, wholeIn}
 use Rattle.leaf_totals.specs.Totalled.{numberOf, valueOf}
 use Rattle.leaves.specs.Totals.{leafPass, leavesPass, lineAdds, profileAdds, withParts, afterPass, addAnswer, recordAfter}
 use Rattle.leaves.proofs.EachPlace.{adds-to-counts}
+use Rattle.leaves.proofs.Order.{is-full, is-long, is-rowless, is-passed}
 use Rattle.totalled.specs.Adding.{AddCall, comesTo, recordLeft, AddAnswers, leafIn, NoneFails, familyOver, countsOf, Begins, AddRefuses, AddsUp, callOf, start, next, RunsAddUp, SharesFair}
 use Rattle.totalled.proofs.Leaves.{line-adds-is}
 use Rattle.totalled.proofs.Fails.{none-fails, fails-at}
@@ -83,16 +84,13 @@ module _ (w : AddCall) where
   -- ---- before the lines
 
   full : mostProfiles ≤ w .old .profiles → AddAnswers w 21 mostProfiles
-  unfolding addAnswer
-  full h = answers {a = Full} (rw (le-leb mostProfiles (w .old .profiles) h))
+  full h = answers {a = Full} (is-full (w .tables) (w .n) (w .profile) (w .old) h)
 
   too-long : w .old .profiles < mostProfiles → mostBytes < length (w .profile) → AddAnswers w 11 mostBytes
-  unfolding addAnswer
-  too-long h l = answers {a = TooLong} (rw (lt-leb mostProfiles (w .old .profiles) h, lt-ltb mostBytes (length (w .profile)) l))
+  too-long h l = answers {a = TooLong} (is-long (w .tables) (w .n) (w .profile) (w .old) h l)
 
   rowless : w .old .profiles < mostProfiles → length (w .profile) ≤ mostBytes → hasRows (w .tables) (w .n) ≡ false → AddAnswers w 12 (w .n)
-  unfolding addAnswer
-  rowless h short e = answers {a = BadRows (w .n)} (rw (lt-leb mostProfiles (w .old .profiles) h, le-ltb mostBytes (length (w .profile)) short, e))
+  rowless h short e = answers {a = BadRows (w .n)} (is-rowless (w .tables) (w .n) (w .profile) (w .old) h short e)
 
   bad-rows : w .old .profiles < mostProfiles → length (w .profile) ≤ mostBytes → (w .n ≡ 0) ⊎ (lent (w .tables) < w .n) → AddAnswers w 12 (w .n)
   bad-rows h short (inl q) = rowless h short (no-rows (w .tables) (w .n) q)
@@ -102,8 +100,7 @@ module _ (w : AddCall) where
 
   answer-is : Begins w → {q r : Pass} → checkOf (w .profile) ≡ q → leavesPass (w .tables) (w .n) (w .profile) ≡ r
       → comesTo w .answer ≡ afterPass q (λ at. BadLine at) (afterPass r (λ at. Damaged at) (cond (ltb limit whole) Past Accepted))
-  unfolding addAnswer
-  answer-is x e f = rw (lt-leb mostProfiles (w .old .profiles) (x .few), le-ltb mostBytes (length (w .profile)) (x .short), rows-lent (w .tables) (w .n) (x .some) (x .lends), e, f)
+  answer-is x e f = is-passed (w .tables) (w .n) (w .profile) (w .old) (x .few) (x .short) (rows-lent (w .tables) (w .n) (x .some) (x .lends)) e f
 
   not-damaged : (q : Pass) (t : Bool) → numberOf (afterPass q (λ at. BadLine at) (cond t Past Accepted)) ≢ 13
   not-damaged (Ends at) t = λ z. omega arith

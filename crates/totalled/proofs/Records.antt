@@ -17,6 +17,7 @@ use Rattle.book.proofs.Tables.{getD-table}
 use Rattle.shares.proofs.Tables.{total-table}
 use Rattle.leaf_totals.specs.declared.LeafTotals.{LeafTotals}
 use Rattle.leaf.specs.Leaf.{unnamed}
+use Rattle.leaf_totals.proofs.Places.{total-family}
 use Rattle.leaf_totals.specs.Record.{totalAt, wholeIn, emptyTotals}
 use Rattle.leaves.specs.Totals.{withParts}
 use Rattle.totalled.specs.Adding.{WholeIs}
@@ -26,7 +27,7 @@ use Rattle.totalled.specs.Adding.{WholeIs}
 pub whole-is : WholeIs
 whole-is t =
     total-table (totalAt t) ∙ sum-next (totalAt t) mostRules
-    ∙ ap₂ _+_ (sum-same (totalAt t) (λ k. getD (t .totals) k 0) mostRules (λ p h. rw (lt-ltb p unnamed h))) refl
+    ∙ ap₂ _+_ (sum-same (totalAt t) (λ k. getD (t .totals) k 0) mostRules (total-family t)) refl
 
 -- ---- parts joined
 

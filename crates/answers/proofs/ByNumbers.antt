@@ -2,8 +2,8 @@
 use mathlib.Core.Path.{refl}
 use Rattle.answers.specs.ByNumbers.{WalkedByNumbers, TalliedByNumbers}
 
-pub walked-by-numbers : WalkedByNumbers
-walked-by-numbers = record { accepted = (refl, refl); tooLong = (refl, refl); badRows = (refl, refl); damaged = (refl, refl); noRoom = (refl, refl) }
+pub walked_by_numbers : WalkedByNumbers
+walked_by_numbers = record { accepted = (refl, refl); too_long = (refl, refl); bad_rows = (refl, refl); damaged = (refl, refl); no_room = (refl, refl) }
 
-pub tallied-by-numbers : TalliedByNumbers
-tallied-by-numbers = record { accepted = (refl, refl); tooLong = (refl, refl); badRows = (refl, refl); damaged = (refl, refl); badLine = (refl, refl); fewSums = (refl, refl) }
+pub tallied_by_numbers : TalliedByNumbers
+tallied_by_numbers = record { accepted = (refl, refl); too_long = (refl, refl); bad_rows = (refl, refl); damaged = (refl, refl); bad_line = (refl, refl); few_sums = (refl, refl) }

@@ -18,15 +18,15 @@ TalliedTells a n v = (numberTallied a ≡ n) × (valueTallied a ≡ v)
 -- an accepted walk has three values: its reports, its fallbacks and the held length
 pub record WalkedByNumbers : Type 0 where
   pub accepted : WalkedTells (walked.Accepted 2 1 4) 0 (2 ∷ 1 ∷ 4 ∷ [])
-  pub tooLong : WalkedTells walked.TooLong 11 (1048576 ∷ [])
-  pub badRows : WalkedTells (walked.BadRows 7) 12 (7 ∷ [])
+  pub too_long : WalkedTells walked.TooLong 11 (1048576 ∷ [])
+  pub bad_rows : WalkedTells (walked.BadRows 7) 12 (7 ∷ [])
   pub damaged : WalkedTells (walked.Damaged 5) 13 (5 ∷ [])
-  pub noRoom : WalkedTells (walked.NoRoom 3) 14 (3 ∷ [])
+  pub no_room : WalkedTells (walked.NoRoom 3) 14 (3 ∷ [])
 
 pub record TalliedByNumbers : Type 0 where
   pub accepted : TalliedTells tallied.Accepted 0 0
-  pub tooLong : TalliedTells tallied.TooLong 11 1048576
-  pub badRows : TalliedTells (tallied.BadRows 7) 12 7
+  pub too_long : TalliedTells tallied.TooLong 11 1048576
+  pub bad_rows : TalliedTells (tallied.BadRows 7) 12 7
   pub damaged : TalliedTells (tallied.Damaged 5) 13 5
-  pub badLine : TalliedTells (tallied.BadLine 6) 15 6
-  pub fewSums : TalliedTells (tallied.FewSums 255) 16 255
+  pub bad_line : TalliedTells (tallied.BadLine 6) 15 6
+  pub few_sums : TalliedTells (tallied.FewSums 255) 16 255

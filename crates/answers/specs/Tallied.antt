@@ -1,6 +1,6 @@
 -- The numbers and the values that the paper gives to the answers of a tally. Assumes nothing.
 use Rattle.std.specs.Prelude.{ℕ}
-use Rattle.book.specs.Limits.{mostBytes}
+use Rattle.book.specs.Limits.{most_bytes}
 use Rattle.answers.specs.declared.Tallied.{Tallied}
 use Rattle.answers.specs.declared.Tallied.TheVariants.{Accepted, TooLong, BadRows, FewSums, BadLine, Damaged}
 
@@ -15,7 +15,7 @@ number_of (Damaged at) = 13
 
 abbrev pub value_of : Tallied → ℕ
 value_of Accepted = 0
-value_of TooLong = mostBytes
+value_of TooLong = most_bytes
 value_of (BadRows rows) = rows
 value_of (FewSums places) = places
 value_of (BadLine at) = at

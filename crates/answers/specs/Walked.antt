@@ -1,6 +1,6 @@
 -- The numbers and the values that the paper gives to the answers of a walk. Assumes nothing.
 use Rattle.std.specs.Prelude.{List, [], ◌∷◌, ℕ, get_or}
-use Rattle.book.specs.Limits.{mostBytes}
+use Rattle.book.specs.Limits.{most_bytes}
 use Rattle.answers.specs.declared.Walked.{Walked}
 use Rattle.answers.specs.declared.Walked.TheVariants.{Accepted, TooLong, BadRows, Damaged, NoRoom}
 
@@ -14,7 +14,7 @@ number_of (NoRoom made) = 14
 
 abbrev pub values_of : Walked → List ℕ
 values_of (Accepted made falls held) = made ∷ falls ∷ held ∷ []
-values_of TooLong = mostBytes ∷ []
+values_of TooLong = most_bytes ∷ []
 values_of (BadRows n) = n ∷ []
 values_of (Damaged at) = at ∷ []
 values_of (NoRoom made) = made ∷ []

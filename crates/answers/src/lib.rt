@@ -1,4 +1,5 @@
 // The answers of a walk and of a tally, with the paper's numbers and values.
+#![tactic(auto)]
 
 ghost use Rattle.std.specs.Prelude.{◌≡◌};
 ghost use Rattle.answers.specs.Walked.{number_of, value_of};

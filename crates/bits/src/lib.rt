@@ -1,8 +1,9 @@
 // Sets of numbers below 64 as one word: k is in the set where the bit k is set.
+#![tactic(auto)]
+
 ghost use Rattle.std.specs.Prelude.{◌≡◌, ◌+◌, ◌*◌, length, get_or, drop};
 ghost use Rattle.std.specs.Int.Bits.{bit_or};
-ghost use Rattle.moments.specs.Moments.{was, left};
-ghost use Rattle.sets.specs.Sets.{has as isIn, adding, members, plusEach, reports, withRoom, replaced};
+ghost use Rattle.sets.specs.Sets.{has as isIn, adding, members, plus_each, reports, with_room, replaced};
 
 // Whether k is in the set.
 pub fn has(set: u64, k: u32) -> bool
@@ -60,8 +61,8 @@ pub fn rest(set: u64) -> u64
 
 // Writes (end, base + k) at out[at..] for each k of the set, ascending, as many pairs as there is room for, and answers where the next would go.
 pub fn write_members(set: u64, base: u16, end: u32, out: &mut [u32], at: usize) -> usize
-    ensures moved { result ≡ at + 2 * length (withRoom (length (was out)) at set) }
-    ensures wrote { left out ≡ replaced at result (reports end (plusEach base (withRoom (length (was out)) at set))) (was out) }
+    ensures moved { result ≡ at + 2 * length (with_room (length out.old) at set) }
+    ensures wrote { out.new ≡ replaced at result (reports end (plus_each base (with_room (length out.old) at set))) out.old }
 {
     if out.len() < at {
         return at;

@@ -10,19 +10,19 @@ use borrow.Author.Tests.{eq-eqb, ne_eqb, lt-ltb, le-ltb}
 use lib.ListN.{length, get_or, take, length-take, get_or-eq_default}
 use lib.Seq.{get_or-take}
 use lib.Dec.{eqb, ltb}
-use Rattle.book.specs.Limits.{mostPictures}
-use Rattle.book.specs.Content.{Content, member, mapOf, recordOf}
+use Rattle.book.specs.Limits.{most_pictures}
+use Rattle.book.specs.Content.{Content, member, map_of, record_of}
 use Rattle.book.specs.Sound.{Sound}
-use Rattle.book.specs.Meant.{memberIn, rulesIn, rulesHeld}
-use Rattle.book.specs.Apart.{Apart, Shares, ApartIsUnshared, pictureFrom, mapBefore, memberBefore, ApartAsBefore}
-use Rattle.book.proofs.Cases.{by-test, by-lt, by-eq, clash}
-use Rattle.book.proofs.Tables.{getD-table}
+use Rattle.book.specs.Meant.{member_in, rules_in, rules_held}
+use Rattle.book.specs.Apart.{Apart, Shares, ApartIsUnshared, picture_from, map_before, member_before, ApartAsBefore}
+use Rattle.book.proofs.Cases.{by_test, by_lt, by_eq, clash}
+use Rattle.book.proofs.Tables.{get_d_table}
 use Rattle.book.proofs.Meant.{member-past, member-same}
 
 -- a picture with a member is one of the book
 inside : (ps : List (List ℕ)) (q c : ℕ) → member c (get_or ps q []) ≡ true → q < length ps
 unfolding member
-inside ps q c t = by-lt q (length ps) (λ l. l) (λ l. clash t (rw (get_or-eq_default ps [] {n = q} l)))
+inside ps q c t = by_lt q (length ps) (λ l. l) (λ l. clash t (rw (get_or-eq_default ps [] {n = q} l)))
 
 -- none shares a byte with an earlier one
 pub apart-unshared : ApartIsUnshared
@@ -38,21 +38,21 @@ apart-unshared ps = (into, onto)
 
     onto : ((i : ℕ) → ¬ Shares (take i ps) (get_or ps i [])) → Apart ps
     onto f p q c t u =
-        by-lt p q (λ l. absurd (earlier f p q c l t u))
-        (λ l. by-lt q p (λ k. absurd (earlier f q p c k u t)) (λ k. omega arith))
+        by_lt p q (λ l. absurd (earlier f p q c l t u))
+        (λ l. by_lt q p (λ k. absurd (earlier f q p c k u t)) (λ k. omega arith))
 
 -- what the number of a byte says: the picture q has it, or none has
 data OneOrNone (ps : List (List ℕ)) (c p : ℕ) : ℕ → Type 0 where
   one : (q : ℕ) → member c (get_or ps q []) ≡ true → OneOrNone ps c p (p + q)
-  none : ((q : ℕ) → member c (get_or ps q []) ≡ false) → OneOrNone ps c p mostPictures
+  none : ((q : ℕ) → member c (get_or ps q []) ≡ false) → OneOrNone ps c p most_pictures
 
-one-or-none : (p : ℕ) (ps : List (List ℕ)) (c : ℕ) → OneOrNone ps c p (pictureFrom p ps c)
-unfolding pictureFrom member
-one-or-none p [] c = none (λ q. refl)
-one-or-none p (m ∷ ps) c =
-    by-test (member c m)
+one_or_none : (p : ℕ) (ps : List (List ℕ)) (c : ℕ) → OneOrNone ps c p (picture_from p ps c)
+unfolding picture_from member
+one_or_none p [] c = none (λ q. refl)
+one_or_none p (m ∷ ps) c =
+    by_test (member c m)
     (λ t. rw t (subst (OneOrNone (m ∷ ps) c p) (add-zero p) (one zero t)))
-    (λ t. rw t (later t (one-or-none (suc p) ps c)))
+    (λ t. rw t (later t (one_or_none (suc p) ps c)))
   where
     neither : member c m ≡ false → ((q : ℕ) → member c (get_or ps q []) ≡ false) → (q : ℕ) → member c (get_or (m ∷ ps) q []) ≡ false
     neither t f zero = t
@@ -66,33 +66,33 @@ module _ (a : Content) (S : Sound a) (apart : Apart a.pictures) where
   abbrev ps : List (List ℕ)
   ps = a.pictures
 
-  by_number : (p c : ℕ) {n : ℕ} → OneOrNone ps c 0 n → (ltb p mostPictures && eqb n p) ≡ member c (get_or ps p [])
+  by_number : (p c : ℕ) {n : ℕ} → OneOrNone ps c 0 n → (ltb p most_pictures && eqb n p) ≡ member c (get_or ps p [])
   by_number p c (one q t) =
-      by-eq (0 + q) p
+      by_eq (0 + q) p
       (λ e.
       let w : q ≡ p = omega arith in
       let u : member c (get_or ps p []) ≡ true = rw w at t in
-      rw (u, eq-eqb (0 + q) p e, lt-ltb p mostPictures (omega (arith, inside ps p c u, S.fewPictures))))
+      rw (u, eq-eqb (0 + q) p e, lt-ltb p most_pictures (omega (arith, inside ps p c u, S.few_pictures))))
       (λ n.
-      by-test (member c (get_or ps p []))
+      by_test (member c (get_or ps p []))
       (λ u. absurd (n (omega (arith, apart q p c t u))))
-      (λ u. rw (u, ne_eqb (0 + q) p n) (and-false (ltb p mostPictures))))
+      (λ u. rw (u, ne_eqb (0 + q) p n) (and-false (ltb p most_pictures))))
   by_number p c (none f) =
-      rw (f p) (by-lt p mostPictures (λ l. rw (lt-ltb p mostPictures l) (ne_eqb mostPictures p (λ e. omega arith))) (λ l. rw (le-ltb p mostPictures l)))
+      rw (f p) (by_lt p most_pictures (λ l. rw (lt-ltb p most_pictures l) (ne_eqb most_pictures p (λ e. omega arith))) (λ l. rw (le-ltb p most_pictures l)))
 
-  member-before : (p c : ℕ) → memberBefore (mapBefore ps) p c ≡ member c (get_or ps p [])
-  unfolding memberBefore mapBefore
-  member-before p c =
-      by-lt c 256
-      (λ h. rw (lt-ltb c 256 h, getD-table 256 (pictureFrom 0 ps) c 0 h) (by_number p c (one-or-none 0 ps c)))
+  member_before_lem : (p c : ℕ) → member_before (map_before ps) p c ≡ member c (get_or ps p [])
+  unfolding member_before map_before
+  member_before_lem p c =
+      by_lt c 256
+      (λ h. rw (lt-ltb c 256 h, get_d_table 256 (picture_from 0 ps) c 0 h) (by_number p c (one_or_none 0 ps c)))
       (λ h. rw (le-ltb c 256 h) (member-past a S p c h))
 
-  members : (p c : ℕ) → memberBefore (mapBefore ps) p c ≡ memberIn (mapOf ps) p c
-  members p c = member-before p c ∙ sym (member-same a S p c)
+  members : (p c : ℕ) → member_before (map_before ps) p c ≡ member_in (map_of ps) p c
+  members p c = member_before_lem p c ∙ sym (member-same a S p c)
 
-pub apart-as-before : ApartAsBefore
-unfolding recordOf rulesIn
-apart-as-before a S apart = record {
+pub apart_as_before : ApartAsBefore
+unfolding record_of rules_in
+apart_as_before a S apart = record {
   members = members a S apart;
-  rules = λ i. record { rules = (rulesHeld (recordOf a)).rules; member = λ p c. members a S apart p c i };
+  rules = λ i. record { rules = (rules_held (record_of a)).rules; member = λ p c. members a S apart p c i };
 }

@@ -4,18 +4,18 @@ use mathlib.Core.List.{[]}
 use mathlib.Core.Path.{◌≡◌, refl}
 use native.Mathlib.Omega.{arith}
 use lib.ListN.{length, get_or}
-use Rattle.sets.specs.Sets.{has, setWhere}
+use Rattle.sets.specs.Sets.{has, set_where}
 use Rattle.meaning.specs.Rules.{fits}
-use Rattle.book.specs.Limits.{mostRules, mostSymbols, places}
-use Rattle.book.specs.Content.{member, picturesWith, symbol_at, padded, sizes, recordOf}
-use Rattle.book.specs.Grown.{symbolsOf, hasRoom}
-use Rattle.book.specs.Meant.{memberIn}
-use Rattle.book.specs.ByNumbers.{LimitsAre, smallContent, SmallRecord}
-use Rattle.book.proofs.Tables.{length-table, getD-table, getD-sizes}
+use Rattle.book.specs.Limits.{most_rules, most_symbols, places}
+use Rattle.book.specs.Content.{member, pictures_with, symbol_at_lem, padded, sizes, record_of}
+use Rattle.book.specs.Grown.{symbols_of, has_room}
+use Rattle.book.specs.Meant.{member_in}
+use Rattle.book.specs.ByNumbers.{LimitsAre, small_content, SmallRecord}
+use Rattle.book.proofs.Tables.{length_table, get_d_table, get_d_sizes}
 use Rattle.book.proofs.Pictures.{get_d_map, length-map}
 
 pub limits : LimitsAre
-unfolding hasRoom
+unfolding has_room
 limits = record {
   pictures = refl;
   rules = refl;
@@ -31,53 +31,53 @@ limits = record {
 
 -- ---- the record, by the laws of its tables: 16,384 places are too many to compute
 
-abbrev symbolIn : ℕ → ℕ
-symbolIn i = symbol_at smallContent.rules (i / mostSymbols) (i % mostSymbols)
+abbrev symbol_in : ℕ → ℕ
+symbol_in i = symbol_at_lem small_content.rules (i / most_symbols) (i % most_symbols)
 
-symbols-long : length (recordOf smallContent).symbols ≡ places
-unfolding padded recordOf
-symbols-long = length-table places symbolIn
+symbols_long : length (record_of small_content).symbols ≡ places
+unfolding padded record_of
+symbols_long = length_table places symbol_in
 
-symbol-at : (i : ℕ) → i < places → get_or (recordOf smallContent).symbols i 0 ≡ symbolIn i
-unfolding padded recordOf
-symbol-at i h = getD-table places symbolIn i 0 h
+symbol_at : (i : ℕ) → i < places → get_or (record_of small_content).symbols i 0 ≡ symbol_in i
+unfolding padded record_of
+symbol_at i h = get_d_table places symbol_in i 0 h
 
-lengths-long : length (recordOf smallContent).lengths ≡ mostRules
-unfolding sizes recordOf
-lengths-long = length-table mostRules (λ k. length (get_or smallContent.rules k []))
+lengths_long : length (record_of small_content).lengths ≡ most_rules
+unfolding sizes record_of
+lengths_long = length_table most_rules (λ k. length (get_or small_content.rules k []))
 
-length_at : (k : ℕ) → k < mostRules → get_or (recordOf smallContent).lengths k 0 ≡ length (get_or smallContent.rules k [])
-unfolding recordOf
-length_at k h = getD-sizes mostRules smallContent.rules k h
+length_at : (k : ℕ) → k < most_rules → get_or (record_of small_content).lengths k 0 ≡ length (get_or small_content.rules k [])
+unfolding record_of
+length_at k h = get_d_sizes most_rules small_content.rules k h
 
-pub small-record : SmallRecord
-unfolding symbolsOf setWhere has member picturesWith recordOf fits memberIn
-small-record = record {
+pub small_record : SmallRecord
+unfolding symbols_of set_where has member pictures_with record_of fits member_in
+small_record = record {
   body = refl;
-  long = symbols-long;
-  at0 = symbol-at 0 (omega arith);
-  at1 = symbol-at 1 (omega arith);
-  at2 = symbol-at 2 (omega arith);
-  at63 = symbol-at 63 (omega arith);
-  at64 = symbol-at 64 (omega arith);
-  at65 = symbol-at 65 (omega arith);
-  at66 = symbol-at 66 (omega arith);
-  at128 = symbol-at 128 (omega arith);
-  lengths = lengths-long;
+  long = symbols_long;
+  at0 = symbol_at 0 (omega arith);
+  at1 = symbol_at 1 (omega arith);
+  at2 = symbol_at 2 (omega arith);
+  at63 = symbol_at 63 (omega arith);
+  at64 = symbol_at 64 (omega arith);
+  at65 = symbol_at 65 (omega arith);
+  at66 = symbol_at 66 (omega arith);
+  at128 = symbol_at 128 (omega arith);
+  lengths = lengths_long;
   length1 = length_at 1 (omega arith);
   length2 = length_at 2 (omega arith);
-  map = length-map smallContent.pictures;
-  map97 = get_d_map smallContent.pictures 97 (omega arith);
-  map98 = get_d_map smallContent.pictures 98 (omega arith);
-  map99 = get_d_map smallContent.pictures 99 (omega arith);
+  map = length-map small_content.pictures;
+  map97 = get_d_map small_content.pictures 97 (omega arith);
+  map98 = get_d_map small_content.pictures 98 (omega arith);
+  map99 = get_d_map small_content.pictures 99 (omega arith);
   pictures = refl;
   rules = refl;
   byte = refl;
-  otherByte = refl;
+  other_byte = refl;
   picture0 = refl;
   picture1 = refl;
-  notPicture1 = refl;
+  not_picture1 = refl;
   in0 = refl;
   in1 = refl;
-  notIn2 = refl;
+  not_in2 = refl;
 }

@@ -4,25 +4,25 @@ use mathlib.Core.Path.{◌≡◌, ap}
 use native.Mathlib.Omega.{arith}
 use lib.ListN.{length, get_or, get_or-eq_default}
 use Rattle.book.specs.declared.Book.{Book}
-use Rattle.book.specs.Limits.{mostRules, mostSymbols}
-use Rattle.book.specs.Content.{Content, sizes, recordOf}
+use Rattle.book.specs.Limits.{most_rules, most_symbols}
+use Rattle.book.specs.Content.{Content, sizes, record_of}
 use Rattle.book.specs.Sound.{Sound}
-use Rattle.book.proofs.Cases.{by-lt}
-use Rattle.book.proofs.Tables.{length-table, getD-sizes}
+use Rattle.book.proofs.Cases.{by_lt}
+use Rattle.book.proofs.Tables.{length_table, get_d_sizes}
 
-module _ {b : Book} (a : Content) (e : b ≡ recordOf a) where
+module _ {b : Book} (a : Content) (e : b ≡ record_of a) where
   pub rules-held : b.rules ≡ length a.rules
-  unfolding recordOf
+  unfolding record_of
   rules-held = ap (λ x. x.rules) e
 
-  pub lengths-held : b.lengths ≡ sizes mostRules a.rules
-  unfolding recordOf
-  lengths-held = ap (λ x. x.lengths) e
+  pub lengths_held : b.lengths ≡ sizes most_rules a.rules
+  unfolding record_of
+  lengths_held = ap (λ x. x.lengths) e
 
-  pub short-held : Sound a → (k : ℕ) → get_or b.lengths k 0 ≤ mostSymbols
+  pub short-held : Sound a → (k : ℕ) → get_or b.lengths k 0 ≤ most_symbols
   unfolding sizes
   short-held S k =
-      rw lengths-held
-      (by-lt k mostRules
-      (λ h. rw (getD-sizes mostRules a.rules k h) (S.short k))
-      (λ h. rw (get_or-eq_default (sizes mostRules a.rules) 0 {n = k} (rw length-table h)) (omega arith)))
+      rw lengths_held
+      (by_lt k most_rules
+      (λ h. rw (get_d_sizes most_rules a.rules k h) (S.short k))
+      (λ h. rw (get_or-eq_default (sizes most_rules a.rules) 0 {n = k} (rw length_table h)) (omega arith)))

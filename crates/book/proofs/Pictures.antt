@@ -9,29 +9,29 @@ use lib.ListN.{length, get_or, set, length-set, get_or-eq_default}
 use lib.Seq.{get_or-set_same, get_or-set_other}
 use lib.Dec.{eqb}
 use Rattle.sets.specs.Sets.{has, adding}
-use Rattle.sets.proofs.Laws.{has_in, has-setWhere, setWhere-ext, adding-again}
-use Rattle.book.specs.Limits.{mostPictures}
-use Rattle.book.specs.Content.{member, picturesWith, mapOf}
+use Rattle.sets.proofs.Laws.{has_in, has-set_where, set_where-ext, adding_again}
+use Rattle.book.specs.Limits.{most_pictures}
+use Rattle.book.specs.Content.{member, pictures_with, map_of}
 use Rattle.book.specs.Grown.{mark}
-use Rattle.book.proofs.Cases.{by-test, by-lt}
-use Rattle.book.proofs.Tables.{length-table, getD-table, is-table, at_snoc}
+use Rattle.book.proofs.Cases.{by_test, by_lt}
+use Rattle.book.proofs.Tables.{length_table, get_d_table, is_table, at_snoc}
 
-pub get_d_map : (ps : List (List ℕ)) (c : ℕ) → c < 256 → get_or (mapOf ps) c 0 ≡ picturesWith ps c
-unfolding mapOf
-get_d_map ps c h = getD-table 256 (picturesWith ps) c 0 h
+pub get_d_map : (ps : List (List ℕ)) (c : ℕ) → c < 256 → get_or (map_of ps) c 0 ≡ pictures_with ps c
+unfolding map_of
+get_d_map ps c h = get_d_table 256 (pictures_with ps) c 0 h
 
-pub length-map : (ps : List (List ℕ)) → length (mapOf ps) ≡ 256
-unfolding mapOf
-length-map ps = length-table 256 (picturesWith ps)
+pub length-map : (ps : List (List ℕ)) → length (map_of ps) ≡ 256
+unfolding map_of
+length-map ps = length_table 256 (pictures_with ps)
 
 -- p is in the set of c where picture p has c
-pub has-pictures : (ps : List (List ℕ)) → length ps ≤ mostPictures → (p c : ℕ) → has (picturesWith ps c) p ≡ member c (get_or ps p [])
-unfolding picturesWith member
-has-pictures ps few p c =
-    has-setWhere mostPictures p (λ q. member c (get_or ps q []))
-    ∙ by-lt p mostPictures
-    (λ h. rw (lt-ltb p mostPictures h))
-    (λ h. rw (le-ltb p mostPictures h, get_or-eq_default ps [] {n = p} (omega arith)))
+pub has_pictures : (ps : List (List ℕ)) → length ps ≤ most_pictures → (p c : ℕ) → has (pictures_with ps c) p ≡ member c (get_or ps p [])
+unfolding pictures_with member
+has_pictures ps few p c =
+    has-set_where most_pictures p (λ q. member c (get_or ps q []))
+    ∙ by_lt p most_pictures
+    (λ h. rw (lt-ltb p most_pictures h))
+    (λ h. rw (le-ltb p most_pictures h, get_or-eq_default ps [] {n = p} (omega arith)))
 
 -- ---- a picture more
 
@@ -41,14 +41,14 @@ length-mark p [] map = refl
 length-mark p (x ∷ m) map = length-mark p m _ ∙ length-set map x _
 
 -- the set of a byte that is marked, and of one that is not
-getD-mark : (p : ℕ) (m map : List ℕ) (c : ℕ) → c < length map → get_or (mark p map m) c 0 ≡ cond (member c m) (adding mostPictures (get_or map c 0) p) (get_or map c 0)
+get_d_mark : (p : ℕ) (m map : List ℕ) (c : ℕ) → c < length map → get_or (mark p map m) c 0 ≡ cond (member c m) (adding most_pictures (get_or map c 0) p) (get_or map c 0)
 unfolding mark member
-getD-mark p [] map c h = refl
-getD-mark p (x ∷ m) map c h =
-    let v = adding mostPictures (get_or map x 0) p in
-    getD-mark p m (set map x v) c (rw length-set h)
-    ∙ by-test (eqb c x)
-    (λ e. let q : c ≡ x = eqb-true c x e in rw (e, q, get_or-set_same map x v 0 (omega arith)) (same (member x m) (adding-again mostPictures (get_or map x 0) p)))
+get_d_mark p [] map c h = refl
+get_d_mark p (x ∷ m) map c h =
+    let v = adding most_pictures (get_or map x 0) p in
+    get_d_mark p m (set map x v) c (rw length-set h)
+    ∙ by_test (eqb c x)
+    (λ e. let q : c ≡ x = eqb-true c x e in rw (e, q, get_or-set_same map x v 0 (omega arith)) (same (member x m) (adding_again most_pictures (get_or map x 0) p)))
     (λ e. rw (e, get_or-set_other map x c v 0 (eqb-false c x e)))
   where
     same : {u v : ℕ} (t : Bool) → u ≡ v → cond t u v ≡ v
@@ -56,21 +56,21 @@ getD-mark p (x ∷ m) map c h =
     same false q = refl
 
 -- the set of c with the number of the new picture, where that has c
-set_more : (ps : List (List ℕ)) (m : List ℕ) (c : ℕ) → cond (member c m) (adding mostPictures (picturesWith ps c) (length ps)) (picturesWith ps c) ≡ picturesWith (ps ++ m ∷ []) c
-unfolding picturesWith adding member
+set_more : (ps : List (List ℕ)) (m : List ℕ) (c : ℕ) → cond (member c m) (adding most_pictures (pictures_with ps c) (length ps)) (pictures_with ps c) ≡ pictures_with (ps ++ m ∷ []) c
+unfolding pictures_with adding member
 set_more ps m c =
-    by-test (member c m)
+    by_test (member c m)
     (λ t.
     rw t
-    (setWhere-ext mostPictures _ _
+    (set_where-ext most_pictures _ _
     (λ i h.
-    rw (has_in mostPictures i f h)
+    rw (has_in most_pictures i f h)
     (at_snoc ps m (λ l. (f i || eqb i (length ps)) ≡ member c l) i
     (λ e. rw (eq-eqb i (length ps) e, or-true, t))
     (λ n. rw (ne_eqb i (length ps) n, or-false))))))
     (λ t.
     rw t
-    (setWhere-ext mostPictures _ _
+    (set_where-ext most_pictures _ _
     (λ i h.
     at_snoc ps m (λ l. f i ≡ member c l) i
     (λ e. rw (get_or-eq_default ps [] {n = i} (omega arith), t))
@@ -79,9 +79,9 @@ set_more ps m c =
     f : ℕ → Bool
     f p = member c (get_or ps p [])
 
-pub map_more : (ps : List (List ℕ)) (m : List ℕ) → mark (length ps) (mapOf ps) m ≡ mapOf (ps ++ m ∷ [])
-unfolding mapOf
+pub map_more : (ps : List (List ℕ)) (m : List ℕ) → mark (length ps) (map_of ps) m ≡ map_of (ps ++ m ∷ [])
+unfolding map_of
 map_more ps m =
-    is-table 256 (picturesWith (ps ++ m ∷ [])) (mark (length ps) (mapOf ps) m)
-    (length-mark (length ps) m (mapOf ps) ∙ length-map ps)
-    (λ c k. getD-mark (length ps) m (mapOf ps) c (rw length-map k) ∙ rw (get_d_map ps c k) (set_more ps m c))
+    is_table 256 (pictures_with (ps ++ m ∷ [])) (mark (length ps) (map_of ps) m)
+    (length-mark (length ps) m (map_of ps) ∙ length-map ps)
+    (λ c k. get_d_mark (length ps) m (map_of ps) c (rw length-map k) ∙ rw (get_d_map ps c k) (set_more ps m c))

@@ -8,25 +8,25 @@ use borrow.Author.Tests.{lt-ltb, le-ltb, le-leb, lt-leb}
 use lib.ListN.{length, get_or, set, replicate, get_or-eq_default}
 use lib.Seq.{sets}
 use lib.Dec.{ltb}
-use Rattle.sets.proofs.Laws.{setWhere-none}
-use Rattle.book.specs.Limits.{mostPictures, mostRules, mostSymbols, places}
-use Rattle.book.specs.Content.{nothing, member, picturesWith, symbol_at, padded, sizes, mapOf, recordOf}
-use Rattle.book.specs.Grown.{symbolsOf, hasRoom, symbolsWith, lengthsWith}
-use Rattle.book.proofs.Tables.{table-constant, padded-set, sizes-set, snoc-here, snoc-other}
+use Rattle.sets.proofs.Laws.{set_where-none}
+use Rattle.book.specs.Limits.{most_pictures, most_rules, most_symbols, places}
+use Rattle.book.specs.Content.{nothing, member, pictures_with, symbol_at_lem, padded, sizes, map_of, record_of}
+use Rattle.book.specs.Grown.{symbols_of, has_room, symbols_with, lengths_with}
+use Rattle.book.proofs.Tables.{table_constant, padded-set, sizes-set, snoc_here, snoc-other}
 
-pub empty-held : record { symbols = replicate places 0; lengths = replicate mostRules 0; picture = replicate 256 0; pictures = 0; rules = 0 } ≡ recordOf nothing
-unfolding recordOf picturesWith member padded sizes mapOf
+pub empty-held : record { symbols = replicate places 0; lengths = replicate most_rules 0; picture = replicate 256 0; pictures = 0; rules = 0 } ≡ record_of nothing
+unfolding record_of pictures_with member padded sizes map_of
 empty-held = λ i. record {
-  symbols = table-constant places 0 (λ k. symbol_at [] (k / mostSymbols) (k % mostSymbols)) (λ k. refl) i;
-  lengths = table-constant mostRules 0 (λ k. length (get_or {A = List ℕ} [] k [])) (λ k. refl) i;
-  picture = table-constant 256 0 (picturesWith []) (λ k. setWhere-none mostPictures _ (λ p h. refl)) i;
+  symbols = table_constant places 0 (λ k. symbol_at_lem [] (k / most_symbols) (k % most_symbols)) (λ k. refl) i;
+  lengths = table_constant most_rules 0 (λ k. length (get_or {A = List ℕ} [] k [])) (λ k. refl) i;
+  picture = table_constant 256 0 (pictures_with []) (λ k. set_where-none most_pictures _ (λ p h. refl)) i;
   pictures = 0;
   rules = 0;
 }
 
 -- two bytes make a symbol
-pub length_symbols : (l : List ℕ) → length (symbolsOf l) ≡ length l / 2
-unfolding symbolsOf
+pub length_symbols : (l : List ℕ) → length (symbols_of l) ≡ length l / 2
+unfolding symbols_of
 length_symbols [] = refl
 length_symbols (k ∷ []) = refl
 length_symbols (k ∷ b ∷ l) = omega (arith, length_symbols l)
@@ -35,51 +35,51 @@ length_symbols (k ∷ b ∷ l) = omega (arith, length_symbols l)
 
 module _ (n : ℕ) (l : List ℕ) where
   -- where there is room, both arrays are stored to
-  module _ (h : n < mostRules) (k : length l ≤ 2 * mostSymbols) where
-    room : hasRoom n l ≡ true
-    unfolding hasRoom
-    room = rw (lt-ltb n mostRules h, le-leb (length l) (2 * mostSymbols) k)
+  module _ (h : n < most_rules) (k : length l ≤ 2 * most_symbols) where
+    room : has_room n l ≡ true
+    unfolding has_room
+    room = rw (lt-ltb n most_rules h, le-leb (length l) (2 * most_symbols) k)
 
-    pub symbols-stored : (symbols : List ℕ) → sets symbols (mostSymbols * n) (symbolsOf l) ≡ symbolsWith symbols n l
-    unfolding symbolsWith
-    symbols-stored symbols = rw room
+    pub symbols_stored : (symbols : List ℕ) → sets symbols (most_symbols * n) (symbols_of l) ≡ symbols_with symbols n l
+    unfolding symbols_with
+    symbols_stored symbols = rw room
 
-    pub length-stored : (lengths : List ℕ) → set lengths n (length l / 2) ≡ lengthsWith lengths n l
-    unfolding lengthsWith
-    length-stored lengths = rw room
+    pub length_stored : (lengths : List ℕ) → set lengths n (length l / 2) ≡ lengths_with lengths n l
+    unfolding lengths_with
+    length_stored lengths = rw room
 
   -- where there is none, both stay
   module _ (symbols lengths : List ℕ) where
     abbrev Stay : Type 0
-    Stay = (symbols ≡ symbolsWith symbols n l) × (lengths ≡ lengthsWith lengths n l)
+    Stay = (symbols ≡ symbols_with symbols n l) × (lengths ≡ lengths_with lengths n l)
 
-    stay : hasRoom n l ≡ false → Stay
-    unfolding symbolsWith lengthsWith
+    stay : has_room n l ≡ false → Stay
+    unfolding symbols_with lengths_with
     stay e = (rw e, rw e)
 
-    pub stay-full : mostRules ≤ n → Stay
-    unfolding hasRoom
-    stay-full h = stay (rw (le-ltb n mostRules h))
+    pub stay_full : most_rules ≤ n → Stay
+    unfolding has_room
+    stay_full h = stay (rw (le-ltb n most_rules h))
 
-    pub stay-long : 2 * mostSymbols < length l → Stay
-    unfolding hasRoom
-    stay-long h = stay (rw (lt-leb (length l) (2 * mostSymbols) h) (and-false (ltb n mostRules)))
+    pub stay_long : 2 * most_symbols < length l → Stay
+    unfolding has_room
+    stay_long h = stay (rw (lt-leb (length l) (2 * most_symbols) h) (and-false (ltb n most_rules)))
 
 -- the arrays of a content with the rule more
-module _ (rs : List (List ℕ)) (l : List ℕ) (h : length rs < mostRules) (k : length l ≤ 2 * mostSymbols) where
+module _ (rs : List (List ℕ)) (l : List ℕ) (h : length rs < most_rules) (k : length l ≤ 2 * most_symbols) where
   abbrev r : List ℕ
-  r = symbolsOf l
+  r = symbols_of l
 
   none : get_or rs (length rs) [] ≡ []
   none = get_or-eq_default rs [] (omega arith)
 
-  pub symbols-more : symbolsWith (padded mostRules mostSymbols rs) (length rs) l ≡ padded mostRules mostSymbols (rs ++ r ∷ [])
-  symbols-more =
-      sym (symbols-stored (length rs) l h k (padded mostRules mostSymbols rs))
-      ∙ padded-set mostRules (length rs) rs (rs ++ r ∷ []) r h none (snoc-here rs r) (snoc-other rs r) mostSymbols (omega (arith, length_symbols l))
+  pub symbols_more : symbols_with (padded most_rules most_symbols rs) (length rs) l ≡ padded most_rules most_symbols (rs ++ r ∷ [])
+  symbols_more =
+      sym (symbols_stored (length rs) l h k (padded most_rules most_symbols rs))
+      ∙ padded-set most_rules (length rs) rs (rs ++ r ∷ []) r h none (snoc_here rs r) (snoc-other rs r) most_symbols (omega (arith, length_symbols l))
 
-  pub lengths-more : lengthsWith (sizes mostRules rs) (length rs) l ≡ sizes mostRules (rs ++ r ∷ [])
-  lengths-more =
-      sym (length-stored (length rs) l h k (sizes mostRules rs))
-      ∙ ap (set (sizes mostRules rs) (length rs)) (sym (length_symbols l))
-      ∙ sizes-set mostRules (length rs) rs (rs ++ r ∷ []) r h none (snoc-here rs r) (snoc-other rs r)
+  pub lengths_more : lengths_with (sizes most_rules rs) (length rs) l ≡ sizes most_rules (rs ++ r ∷ [])
+  lengths_more =
+      sym (length_stored (length rs) l h k (sizes most_rules rs))
+      ∙ ap (set (sizes most_rules rs) (length rs)) (sym (length_symbols l))
+      ∙ sizes-set most_rules (length rs) rs (rs ++ r ∷ []) r h none (snoc_here rs r) (snoc-other rs r)

@@ -2,10 +2,10 @@
 -- of a book whose pictures lie apart that map says what the sets say. Assumes nothing.
 use Rattle.std.specs.Prelude.{ℕ, suc, ◌≡◌, ◌↔◌, Bool, true, ◌&&◌, cond, List, [], ◌∷◌, get_or, take, eqb, ltb}
 use Rattle.meaning.specs.Rules.{Rules}
-use Rattle.book.specs.Limits.{mostPictures}
-use Rattle.book.specs.Content.{Content, member, table, mapOf, recordOf}
+use Rattle.book.specs.Limits.{most_pictures}
+use Rattle.book.specs.Content.{Content, member, table, map_of, record_of}
 use Rattle.book.specs.Sound.{Sound}
-use Rattle.book.specs.Meant.{memberIn, rulesHeld}
+use Rattle.book.specs.Meant.{member_in, rules_held}
 
 -- no byte is in two of the pictures
 abbrev pub Apart : List (List ℕ) → Type 0
@@ -25,26 +25,26 @@ ApartIsUnshared = (ps : List (List ℕ)) → Apart ps ↔ ((i : ℕ) → ¬ Shar
 -- ---- the map as it was
 
 -- the number of the first picture with the byte c, where the first has the number p; 16 where there is none
-unfoldable pub pictureFrom : ℕ → List (List ℕ) → ℕ → ℕ
-pictureFrom p [] c = mostPictures
-pictureFrom p (m ∷ ms) c = cond (member c m) p (pictureFrom (suc p) ms c)
+unfoldable pub picture_from : ℕ → List (List ℕ) → ℕ → ℕ
+picture_from p [] c = most_pictures
+picture_from p (m ∷ ms) c = cond (member c m) p (picture_from (suc p) ms c)
 
 -- the picture of each byte value
-unfoldable pub mapBefore : List (List ℕ) → List ℕ
-mapBefore ps = table 256 (pictureFrom 0 ps)
+unfoldable pub map_before : List (List ℕ) → List ℕ
+map_before ps = table 256 (picture_from 0 ps)
 
 -- by that map, is the byte c a member of picture p
-unfoldable pub memberBefore : List ℕ → ℕ → ℕ → Bool
-memberBefore map p c = ltb c 256 && ltb p mostPictures && eqb (get_or map c 0) p
+unfoldable pub member_before : List ℕ → ℕ → ℕ → Bool
+member_before map p c = ltb c 256 && ltb p most_pictures && eqb (get_or map c 0) p
 
 -- the rules of what a record holds, with the members by that map
-abbrev pub rulesBefore : Content → Rules
-rulesBefore a = record { rules = (rulesHeld (recordOf a)).rules; member = memberBefore (mapBefore a.pictures) }
+abbrev pub rules_before : Content → Rules
+rules_before a = record { rules = (rules_held (record_of a)).rules; member = member_before (map_before a.pictures) }
 
 -- of a book whose pictures lie apart, the number and the set say the same of each picture and byte; so its rules are those it had
 pub record AsBefore (a : Content) : Type 0 where
-  pub members : (p c : ℕ) → memberBefore (mapBefore a.pictures) p c ≡ memberIn (mapOf a.pictures) p c
-  pub rules : rulesBefore a ≡ rulesHeld (recordOf a)
+  pub members : (p c : ℕ) → member_before (map_before a.pictures) p c ≡ member_in (map_of a.pictures) p c
+  pub rules : rules_before a ≡ rules_held (record_of a)
 
 abbrev pub ApartAsBefore : Type 0
 ApartAsBefore = (a : Content) → Sound a → Apart a.pictures → AsBefore a

@@ -2,27 +2,27 @@
 use Rattle.std.specs.Prelude.{ℕ, ◌+◌, ◌*◌, ◌/◌, Bool, ◌&&◌, cond, List, [], ◌∷◌, length, get_or, set, leb, ltb}
 use Rattle.std.proofs.lemmas.List.Edits.{sets}
 use Rattle.sets.specs.Sets.{adding}
-use Rattle.book.specs.Limits.{mostPictures, mostRules, mostSymbols}
+use Rattle.book.specs.Limits.{most_pictures, most_rules, most_symbols}
 
 -- the map with p in the set of each byte of m; as it was where there is no picture p
 unfoldable pub mark : ℕ → List ℕ → List ℕ → List ℕ
 mark p map [] = map
-mark p map (c ∷ m) = mark p (set map c (adding mostPictures (get_or map c 0) p)) m
+mark p map (c ∷ m) = mark p (set map c (adding most_pictures (get_or map c 0) p)) m
 
 -- the symbols of a body: 256 times the kind plus the second byte
-unfoldable pub symbolsOf : List ℕ → List ℕ
-symbolsOf [] = []
-symbolsOf (k ∷ []) = []
-symbolsOf (k ∷ b ∷ l) = (256 * k + b) ∷ symbolsOf l
+unfoldable pub symbols_of : List ℕ → List ℕ
+symbols_of [] = []
+symbols_of (k ∷ []) = []
+symbols_of (k ∷ b ∷ l) = (256 * k + b) ∷ symbols_of l
 
 -- a book may have a rule n, and a rule the symbols of the body l
-unfoldable pub hasRoom : ℕ → List ℕ → Bool
-hasRoom n l = ltb n mostRules && leb (length l) (2 * mostSymbols)
+unfoldable pub has_room : ℕ → List ℕ → Bool
+has_room n l = ltb n most_rules && leb (length l) (2 * most_symbols)
 
 -- the places for symbols with those of rule n, whose body is l; as they were where it has no room
-unfoldable pub symbolsWith : List ℕ → ℕ → List ℕ → List ℕ
-symbolsWith symbols n l = cond (hasRoom n l) (sets symbols (mostSymbols * n) (symbolsOf l)) symbols
+unfoldable pub symbols_with : List ℕ → ℕ → List ℕ → List ℕ
+symbols_with symbols n l = cond (has_room n l) (sets symbols (most_symbols * n) (symbols_of l)) symbols
 
 -- the lengths with that of rule n, whose body is l; as they were where it has no room
-unfoldable pub lengthsWith : List ℕ → ℕ → List ℕ → List ℕ
-lengthsWith lengths n l = cond (hasRoom n l) (set lengths n (length l / 2)) lengths
+unfoldable pub lengths_with : List ℕ → ℕ → List ℕ → List ℕ
+lengths_with lengths n l = cond (has_room n l) (set lengths n (length l / 2)) lengths

@@ -1,11 +1,12 @@
 // The record of a rule book: its limits, the empty book, one picture and one rule more, and whether a byte fits a symbol.
+#![tactic(auto)]
+
 ghost use Rattle.std.specs.Prelude.{◌≡◌, ◌+◌, ◌*◌, ◌/◌, ◌<◌, ◌≤◌, length};
 ghost use Rattle.std.proofs.lemmas.List.Edits.{sets};
-ghost use Rattle.moments.specs.Moments.{was, left};
 ghost use Rattle.sets.specs.Sets.{has as isIn, adding};
-ghost use Rattle.book.specs.Limits.{mostPictures, mostRules, mostSymbols, places, mostRows, mostBytes};
-ghost use Rattle.book.specs.Content.{nothing, recordOf};
-ghost use Rattle.book.specs.Grown.{mark, symbolsOf, symbolsWith, lengthsWith};
+ghost use Rattle.book.specs.Limits.{most_pictures, most_rules, most_symbols, places, most_rows, most_bytes};
+ghost use Rattle.book.specs.Content.{nothing, record_of};
+ghost use Rattle.book.specs.Grown.{mark, symbols_of, symbols_with, lengths_with};
 ghost use Rattle.book.specs.Meant.{SaysWhetherFits};
 
 // The pictures with each byte value, as a set: picture p at bit p. Other crates lend the map and ask `fits`.
@@ -40,13 +41,13 @@ impl Book {
 
     // The book with no picture and no rule.
     pub fn empty() -> Book
-        ensures value { result ≡ recordOf nothing }
-        ensures* do_value { do ⌜ (← (⟦Book::PICTURES⟧).entry) ≡ mostPictures ⌝ }
-        ensures* do_value_2 { do ⌜ (← (⟦Book::RULES⟧).entry) ≡ mostRules ⌝ }
-        ensures* do_value_3 { do ⌜ (← (⟦Book::SYMBOLS⟧).entry) ≡ mostSymbols ⌝ }
-        ensures* do_value_4 { do ⌜ (← (⟦Book::PLACES⟧).entry) ≡ places ⌝ }
-        ensures* do_value_5 { do ⌜ (← (⟦Book::ROWS⟧).entry) ≡ mostRows ⌝ }
-        ensures* do_value_6 { do ⌜ (← (⟦Book::TEXT⟧).entry) ≡ mostBytes ⌝ }
+        ensures holds_nothing { result ≡ record_of nothing }
+        ensures pictures { Book.PICTURES ≡ most_pictures }
+        ensures rules { Book.RULES ≡ most_rules }
+        ensures symbols { Book.SYMBOLS ≡ most_symbols }
+        ensures all_places { Book.PLACES ≡ places }
+        ensures rows { Book.ROWS ≡ most_rows }
+        ensures bytes { Book.TEXT ≡ most_bytes }
     {
         Book {
             symbols: [0; Book::PLACES],
@@ -59,7 +60,7 @@ impl Book {
 
     // The picture `p` in the set of each byte of `body`: the next picture, where the book has `p` of them. There is none past the limit.
     pub fn add_picture(map: &mut Pictures, p: u8, body: &[u8])
-        ensures { left map ≡ mark p (was map) (was body) }
+        ensures { map.new ≡ mark p map.old body.now }
     {
         let mut i: usize = 0;
         while i < body.len() {
@@ -77,8 +78,8 @@ impl Book {
         rules: usize,
         body: &[u8],
     )
-        ensures symbols_value { left symbols ≡ symbolsWith (was symbols) rules (was body) }
-        ensures lengths_value { left lengths ≡ lengthsWith (was lengths) rules (was body) }
+        ensures symbols_grown { symbols.new ≡ symbols_with symbols.old rules body.now }
+        ensures lengths_grown { lengths.new ≡ lengths_with lengths.old rules body.now }
     {
         if Book::RULES <= rules {
             return;
@@ -101,7 +102,7 @@ fn wide(x: u8) -> usize
 
 // The set with the picture `p`, where there is such a picture.
 fn with(set: u16, p: u8) -> u16
-    ensures { result ≡ adding mostPictures set p }
+    ensures { result ≡ adding most_pictures set p }
 {
     if Book::PICTURES <= p {
         return set;
@@ -118,7 +119,7 @@ fn has(set: u16, p: u16) -> bool
 
 // Does the byte `c` fit the symbol, by the map?
 pub fn fits(pictures: &Pictures, c: u8, symbol: u16) -> bool
-    ensures { SaysWhetherFits (was pictures) c symbol result }
+    ensures { SaysWhetherFits pictures.now c symbol result }
 {
     if symbol < 256 {
         return c as u16 == symbol;
@@ -138,7 +139,7 @@ fn symbol(kind: u8, second: u8) -> u16
 // The pairs of `body` as symbols, from the place `from` on.
 fn store(room: &mut [u16; Book::PLACES], from: usize, body: &[u8])
     requires { from + length body.now / 2 ≤ places }
-    ensures { left room ≡ sets (was room) from (symbolsOf (was body)) }
+    ensures { room.new ≡ sets room.old from (symbols_of body.now) }
 {
     let mut j: usize = from;
     let mut i: usize = 0;

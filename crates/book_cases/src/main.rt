@@ -1,5 +1,7 @@
 // Reads books and writes, a line each: the label, the number and the value of the answer; then what the record holds: the pictures, the
 // rules, the symbols in all, their sum over all places, and the pairs of a picture and a member.
+#![tactic(auto)]
+
 ghost use Rattle.std.specs.Prelude.{◌<◌};
 
 use book::Book;

@@ -7,35 +7,35 @@ use native.Mathlib.Omega.{arith}
 use native.Mathlib.Decide.{dec_lt}
 use lib.ListN.{get_or, set, replicate, length-set, length-replicate}
 use lib.Seq.{get_or-set_same, get_or-set_other}
-use Rattle.sets.specs.Table.{rowWords, rulesAt}
+use Rattle.sets.specs.Table.{row_words, rules_at}
 use Rattle.rows.proofs.Compare.{less, equal, more, order}
 use Rattle.meaning.proofs.Build.{Put}
-use Rattle.book.specs.Limits.{mostRows}
-use Rattle.build.specs.Course.{number_at, Stored, Key, Rising, chainOf, chainAt, Newest, Chains}
+use Rattle.book.specs.Limits.{most_rows}
+use Rattle.build.specs.Course.{number_at, Stored, Key, Rising, chain_of, chain_at, Newest, Chains}
 use Rattle.build.specs.declared.Placed.TheVariants as placed
 use Rattle.build.specs.declared.Filled.TheVariants as filled
-use Rattle.sets.proofs.Zeros.{zero-at}
+use Rattle.sets.proofs.Zeros.{zero_at}
 
-pub chains-start : (m : ℕ) → m ≡ mostRows → (chain : ℕ → ℕ) → Chains (replicate m 0) (replicate m 0) chain 1
-chains-start m e chain = record {
+pub chains_start : (m : ℕ) → m ≡ most_rows → (chain : ℕ → ℕ) → Chains (replicate m 0) (replicate m 0) chain 1
+chains_start m e chain = record {
   first-long = length-replicate m 0 ∙ e;
-  older-long = length-replicate m 0 ∙ e;
-  heads = λ g. rw (zero-at m g) (record { below = omega arith; same = λ z. absurd (z refl); gap = λ j a b. absurd (omega arith) });
+  older_long = length-replicate m 0 ∙ e;
+  heads = λ g. rw (zero_at m g) (record { below = omega arith; same = λ z. absurd (z refl); gap = λ j a b. absurd (omega arith) });
   links = λ i l z. absurd (z (omega arith));
 }
 
 -- ---- one row more
 
-newest-kept : {old new : ℕ → ℕ} {n g i : ℕ} → ((j : ℕ) → j < n → new j ≡ old j) → Newest old n g i → Newest new n g i
-newest-kept {i = i} e k = record {
+newest_kept : {old new : ℕ → ℕ} {n g i : ℕ} → ((j : ℕ) → j < n → new j ≡ old j) → Newest old n g i → Newest new n g i
+newest_kept {i = i} e k = record {
   below = k.below;
   same = λ z. e i k.below ∙ k.same z;
   gap = λ j a b q. k.gap j a b (sym (e j b) ∙ q);
 }
 
 -- a row of another chain
-newest-other : {old new : ℕ → ℕ} {n v g i : ℕ} → Put n v old new → v ≢ g → Newest old n g i → Newest new (n + 1) g i
-newest-other {n = n} {i = i} p ne k = record {
+newest_other : {old new : ℕ → ℕ} {n v g i : ℕ} → Put n v old new → v ≢ g → Newest old n g i → Newest new (n + 1) g i
+newest_other {n = n} {i = i} p ne k = record {
   below = omega (arith, k.below);
   same = λ z. p.kept i k.below ∙ k.same z;
   gap = λ j a b q. elim (dec_lt j n) [
@@ -44,9 +44,9 @@ newest-other {n = n} {i = i} p ne k = record {
   ];
 }
 
-module _ {first older : List ℕ} {old new : ℕ → ℕ} {n g : ℕ} (k : Chains first older old n) (p : Put n g old new) (hg : g < mostRows) (hn : n < mostRows) where
-  heads-more : (e : ℕ) → Newest new (n + 1) e (get_or (set first g n) e 0)
-  heads-more e =
+module _ {first older : List ℕ} {old new : ℕ → ℕ} {n g : ℕ} (k : Chains first older old n) (p : Put n g old new) (hg : g < most_rows) (hn : n < most_rows) where
+  heads_more : (e : ℕ) → Newest new (n + 1) e (get_or (set first g n) e 0)
+  heads_more e =
       elim (order e g) [
         | less l ↦ apart (λ q. omega arith)
         | equal q ↦
@@ -56,79 +56,79 @@ module _ {first older : List ℕ} {old new : ℕ → ℕ} {n g : ℕ} (k : Chain
       ]
     where
       apart : e ≢ g → Newest new (n + 1) e (get_or (set first g n) e 0)
-      apart ne = rw (get_or-set_other first g e n 0 (λ q. ne (omega arith))) (newest-other p (λ q. ne (sym q)) (k.heads e))
+      apart ne = rw (get_or-set_other first g e n 0 (λ q. ne (omega arith))) (newest_other p (λ q. ne (sym q)) (k.heads e))
 
-  links-more : (i : ℕ) → i < n + 1 → i ≢ 0 → Newest new i (new i) (get_or (set older n (get_or first g 0)) i 0)
-  links-more i l z =
+  links_more : (i : ℕ) → i < n + 1 → i ≢ 0 → Newest new i (new i) (get_or (set older n (get_or first g 0)) i 0)
+  links_more i l z =
       elim (dec_lt i n) [
         | yes h ↦
             rw (get_or-set_other older n i (get_or first g 0) 0 (λ e. omega arith), p.kept i h)
-            (newest-kept (λ j b. p.kept j (omega arith)) (k.links i h z))
+            (newest_kept (λ j b. p.kept j (omega arith)) (k.links i h z))
         | no o ↦
             let e : i ≡ n = omega arith in
-            rw (e, get_or-set_same older n (get_or first g 0) 0 (omega (arith, k.older-long)), p.here) (newest-kept p.kept (k.heads g))
+            rw (e, get_or-set_same older n (get_or first g 0) 0 (omega (arith, k.older_long)), p.here) (newest_kept p.kept (k.heads g))
       ]
 
-  pub chains-more : Chains (set first g n) (set older n (get_or first g 0)) new (n + 1)
-  chains-more = record {
+  pub chains_more : Chains (set first g n) (set older n (get_or first g 0)) new (n + 1)
+  chains_more = record {
     first-long = length-set first g n ∙ k.first-long;
-    older-long = length-set older n (get_or first g 0) ∙ k.older-long;
-    heads = heads-more;
-    links = links-more;
+    older_long = length-set older n (get_or first g 0) ∙ k.older_long;
+    heads = heads_more;
+    links = links_more;
   }
 
 -- a row stored at n, in its chain
-pub chain-put : {fall fall' live live' : List ℕ} {n f l g : ℕ} → Stored 1 number_at n f fall fall' → Stored rowWords rulesAt n l live live' → g ≡ chainOf f l
-    → Put n g (chainAt fall live) (chainAt fall' live')
-chain-put a b e = record { kept = λ i h. ap₂ chainOf (a.kept i h) (b.kept i h); here = ap₂ chainOf a.here b.here ∙ sym e }
+pub chain_put : {fall fall' live live' : List ℕ} {n f l g : ℕ} → Stored 1 number_at n f fall fall' → Stored row_words rules_at n l live live' → g ≡ chain_of f l
+    → Put n g (chain_at fall live) (chain_at fall' live')
+chain_put a b e = record { kept = λ i h. ap₂ chain_of (a.kept i h) (b.kept i h); here = ap₂ chain_of a.here b.here ∙ sym e }
 
 -- the chains of the rows that an answer counts
-pub chains-placed : {first older : List ℕ} {chain : ℕ → ℕ} {i n e m : ℕ} → placed.Entry i n ≡ placed.Entry e m → Chains first older chain n → Chains first older chain m
-chains-placed {n = n} {m = m} q k = let z : n ≡ m = cc in rw z at k
+pub chains_placed : {first older : List ℕ} {chain : ℕ → ℕ} {i n e m : ℕ} → placed.Entry i n ≡ placed.Entry e m → Chains first older chain n → Chains first older chain m
+chains_placed {n = n} {m = m} q k = let z : n ≡ m = cc in rw z at k
 
-pub chains-filled : {first older : List ℕ} {chain : ℕ → ℕ} {n m : ℕ} → filled.Rows n ≡ filled.Rows m → Chains first older chain n → Chains first older chain m
-chains-filled {n = n} {m = m} q k = let z : n ≡ m = cc in rw z at k
+pub chains_filled : {first older : List ℕ} {chain : ℕ → ℕ} {n m : ℕ} → filled.Rows n ≡ filled.Rows m → Chains first older chain n → Chains first older chain m
+chains_filled {n = n} {m = m} q k = let z : n ≡ m = cc in rw z at k
 
-pub not-placed : {A : Type 0} {e m : ℕ} → placed.Full ≡ placed.Entry e m → A
-not-placed q = absurd (let z : ◌≡◌ {A = ℕ} 0 1 = cc in omega arith)
+pub not_placed : {A : Type 0} {e m : ℕ} → placed.Full ≡ placed.Entry e m → A
+not_placed q = absurd (let z : ◌≡◌ {A = ℕ} 0 1 = cc in omega arith)
 
-pub not-filled : {A : Type 0} {m : ℕ} → filled.Full ≡ filled.Rows m → A
-not-filled q = absurd (let z : ◌≡◌ {A = ℕ} 0 1 = cc in omega arith)
+pub not_filled : {A : Type 0} {m : ℕ} → filled.Full ≡ filled.Rows m → A
+not_filled q = absurd (let z : ◌≡◌ {A = ℕ} 0 1 = cc in omega arith)
 
 -- ---- a search for three numbers, along their chain
 
 -- a row with the numbers is in it
-key-chain : {held live fall : List ℕ} {h l f j : ℕ} → Key held live fall h l f j → chainAt fall live j ≡ chainOf f l
-key-chain y = ap₂ chainOf y.fall-is y.live-is
+key_chain : {held live fall : List ℕ} {h l f j : ℕ} → Key held live fall h l f j → chain_at fall live j ≡ chain_of f l
+key_chain y = ap₂ chain_of y.fall_is y.live_is
 
 -- row i is in the chain, where it is not row 0, and no row above it has the numbers
 pub record Searched (held live fall : List ℕ) (n h l f i : ℕ) : Type 0 where
-  pub same : i ≢ 0 → chainAt fall live i ≡ chainOf f l
+  pub same : i ≢ 0 → chain_at fall live i ≡ chain_of f l
   pub above : (j : ℕ) → i < j → j < n → ¬ Key held live fall h l f j
 
 module _ {held live fall : List ℕ} {n h l f : ℕ} where
-  pub searched-start : {i : ℕ} → Newest (chainAt fall live) n (chainOf f l) i → Searched held live fall n h l f i
-  searched-start k = record { same = k.same; above = λ j a b y. k.gap j a b (key-chain y) }
+  pub searched_start : {i : ℕ} → Newest (chain_at fall live) n (chain_of f l) i → Searched held live fall n h l f i
+  searched_start k = record { same = k.same; above = λ j a b y. k.gap j a b (key_chain y) }
 
   module _ {i : ℕ} (x : Searched held live fall n h l f i) where
-    pub searched-next : {o : ℕ} → i ≢ 0 → Newest (chainAt fall live) i (chainAt fall live i) o → ¬ Key held live fall h l f i → Searched held live fall n h l f o
-    searched-next nz k not = record {
+    pub searched_next : {o : ℕ} → i ≢ 0 → Newest (chain_at fall live) i (chain_at fall live i) o → ¬ Key held live fall h l f i → Searched held live fall n h l f o
+    searched_next nz k not = record {
       same = λ z. k.same z ∙ x.same nz;
       above = λ j a b y. elim (order j i) [
-        | less d ↦ k.gap j a d (key-chain y ∙ sym (x.same nz))
+        | less d ↦ k.gap j a d (key_chain y ∙ sym (x.same nz))
         | equal e ↦ not (rw e at y)
         | more d ↦ x.above j d b y
       ];
     }
 
     -- a row of a lesser held length: the rows below it hold no more
-    pub searched-short : Rising held n h → i < n → get_or held i 0 < h → (j : ℕ) → j < n → ¬ Key held live fall h l f j
-    searched-short k b lower j c y =
+    pub searched_short : Rising held n h → i < n → get_or held i 0 < h → (j : ℕ) → j < n → ¬ Key held live fall h l f j
+    searched_short k b lower j c y =
         elim (order j i) [
-          | less d ↦ omega (arith, k.up j i d b, y.held-is)
-          | equal e ↦ omega (arith, rw e at y.held-is)
+          | less d ↦ omega (arith, k.up j i d b, y.held_is)
+          | equal e ↦ omega (arith, rw e at y.held_is)
           | more d ↦ x.above j d c y
         ]
 
-  pub searched-end : Rising held n h → Searched held live fall n h l f 0 → (j : ℕ) → j < n → ¬ Key held live fall h l f j
-  searched-end k x j c y = elim (dec_lt 0 j) [ yes d ↦ x.above j d c y | no g ↦ let e : j ≡ 0 = omega arith in omega (arith, k.low, rw e at y.held-is) ]
+  pub searched_end : Rising held n h → Searched held live fall n h l f 0 → (j : ℕ) → j < n → ¬ Key held live fall h l f j
+  searched_end k x j c y = elim (dec_lt 0 j) [ yes d ↦ x.above j d c y | no g ↦ let e : j ≡ 0 = omega arith in omega (arith, k.low, rw e at y.held_is) ]

@@ -12,71 +12,71 @@ use lib.ListN.{length, get_or, set, take, drop, replicate, get_or-replicate}
 use lib.Seq.{get_or-set_same, get_or-set_other, get_or-drop}
 use borrow.Author.Count.{below_more}
 use borrow.Author.Tests.{lt-ltb, le-ltb}
-use Rattle.sets.specs.Sets.{has, setWhere, adding, setOf, wordWhere}
-use Rattle.sets.specs.Table.{rowWords}
-use Rattle.sets.proofs.Laws.{setWhere-lt, setWhere-ext, setWhere-with, setWhere-skip, adding-with}
-use Rattle.sets.proofs.InWords.{Words, has-at, setOf-where}
+use Rattle.sets.specs.Sets.{has, set_where, adding, set_of, word_where}
+use Rattle.sets.specs.Table.{row_words}
+use Rattle.sets.proofs.Laws.{set_where-lt, set_where-ext, set_where_with, set_where_skip, adding_with}
+use Rattle.sets.proofs.InWords.{Words, has_at, set_of_where}
 use Rattle.sets.proofs.Writing.{Writing}
-use Rattle.meaning.specs.Rules.{fitsAt}
-use Rattle.meaning.specs.Step.{goesOn, nextLive, finished}
-use Rattle.book.specs.Limits.{mostRules, mostSymbols}
-use Rattle.book.specs.Meant.{rulesIn}
-use Rattle.book.proofs.Meant.{count-in, size_in, symbol-in}
-use Rattle.build.specs.Sets.{Within, Short, Joins, IsWord, endedIn}
+use Rattle.meaning.specs.Rules.{fits_at}
+use Rattle.meaning.specs.Step.{goes_on, next_live, finished}
+use Rattle.book.specs.Limits.{most_rules, most_symbols}
+use Rattle.book.specs.Meant.{rules_in}
+use Rattle.book.proofs.Meant.{count_in_lem, size_in, symbol_in_lem}
+use Rattle.build.specs.Sets.{Within, Short, Joins, IsWord, ended_in}
 
 -- ---- a set of rules, word by word
 
 -- a set of those below k, where k joins it, and where it does not
-pub set-with : {k s x : ℕ} (p : ℕ → Bool) → s ≡ setWhere k p → p k ≡ true → x ≡ adding 64 s k → k < 64 → x ≡ setWhere (k + 1) p
-set-with {k} {s} p e t q l =
-    let small : s < 2 ^ 64 = rw e (lt_of_lt_of_le (setWhere-lt k p) (pow_mono (le_of_lt l))) in
-    q ∙ adding-with 64 s k small l ∙ rw (e, add-one) (setWhere-with k p t)
+pub set_with : {k s x : ℕ} (p : ℕ → Bool) → s ≡ set_where k p → p k ≡ true → x ≡ adding 64 s k → k < 64 → x ≡ set_where (k + 1) p
+set_with {k} {s} p e t q l =
+    let small : s < 2 ^ 64 = rw e (lt_of_lt_of_le (set_where-lt k p) (pow_mono (le_of_lt l))) in
+    q ∙ adding_with 64 s k small l ∙ rw (e, add-one) (set_where_with k p t)
 
-pub set_same : {k s : ℕ} (p : ℕ → Bool) → s ≡ setWhere k p → p k ≡ false → s ≡ setWhere (k + 1) p
-set_same {k} p e t = e ∙ rw add-one (setWhere-skip k p t)
+pub set_same : {k s : ℕ} (p : ℕ → Bool) → s ≡ set_where k p → p k ≡ false → s ≡ set_where (k + 1) p
+set_same {k} p e t = e ∙ rw add-one (set_where_skip k p t)
 
 -- a word of a set in words
-pub is_word : (ws : List ℕ) → Words ws → (i : ℕ) → IsWord (setOf ws) i (get_or ws i 0)
-is_word ws f i = record { bits = λ k h. has-at ws f i k h }
+pub is_word : (ws : List ℕ) → Words ws → (i : ℕ) → IsWord (set_of ws) i (get_or ws i 0)
+is_word ws f i = record { bits = λ k h. has_at ws f i k h }
 
 -- all words are made, as those past the last rule are empty
-pub words-made : (n : ℕ) (p : ℕ → Bool) (i : ℕ) (ws : List ℕ) → n ≤ mostRules → n ≤ 64 * i → Writing (wordWhere n p) (replicate rowWords 0) 0 i ws → (setOf ws ≡ setWhere n p) × (length ws ≡ rowWords)
-unfolding setWhere
-words-made n p i ws few all w = (setOf-where n p ws (omega (arith, w.long)) at, w.long)
+pub words-made : (n : ℕ) (p : ℕ → Bool) (i : ℕ) (ws : List ℕ) → n ≤ most_rules → n ≤ 64 * i → Writing (word_where n p) (replicate row_words 0) 0 i ws → (set_of ws ≡ set_where n p) × (length ws ≡ row_words)
+unfolding set_where
+words-made n p i ws few all w = (set_of_where n p ws (omega (arith, w.long)) at, w.long)
   where
-    at : (j : ℕ) → j < length ws → get_or ws j 0 ≡ wordWhere n p j
+    at : (j : ℕ) → j < length ws → get_or ws j 0 ≡ word_where n p j
     at j h =
         elim (dec_lt j i) [
           | yes l ↦ rw zero-add at (w.done j l)
           | no l ↦
               let none : min 64 (n - 64 * j) ≡ 0 = omega arith in
-              w.after j (omega arith) ∙ get_or-replicate rowWords j 0 0 (omega (arith, w.long)) ∙ sym (ap (λ m. setWhere m (λ k. p (64 * j + k))) none)
+              w.after j (omega arith) ∙ get_or-replicate row_words j 0 0 (omega (arith, w.long)) ∙ sym (ap (λ m. set_where m (λ k. p (64 * j + k))) none)
         ]
 
 -- ---- the rules that lent arrays hold
 
 module _ (symbols lengths picture : List ℕ) (n : ℕ) where
-  pub short-in : Within lengths n → Short (rulesIn symbols lengths picture n)
-  short-in w = record { at = λ k h. rw (size_in symbols lengths picture n k (rw count-in at h)) (w.short k) }
+  pub short_in : Within lengths n → Short (rules_in symbols lengths picture n)
+  short_in w = record { at = λ k h. rw (size_in symbols lengths picture n k (rw count_in_lem at h)) (w.short k) }
 
-  pub ended-in : (h s : ℕ) → endedIn lengths n h s ≡ finished (rulesIn symbols lengths picture n) h s
+  pub ended_in_lem : (h s : ℕ) → ended_in lengths n h s ≡ finished (rules_in symbols lengths picture n) h s
   unfolding finished
-  ended-in h s = rw (count-in symbols lengths picture n) (setWhere-ext n _ _ (λ k l. rw (size_in symbols lengths picture n k l)))
+  ended_in_lem h s = rw (count_in_lem symbols lengths picture n) (set_where-ext n _ _ (λ k l. rw (size_in symbols lengths picture n k l)))
 
   -- the test of rule k in `extended_word`, where it is bit b of the word w
-  pub goes_in : (h s c k w b : ℕ) {t : Bool} → has s k ≡ has w b → k < n → h < get_or lengths k 0 → Joins picture w h b (get_or symbols (mostSymbols * k + h) 0) c t
-      → goesOn (rulesIn symbols lengths picture n) h s c k ≡ t
-  unfolding fitsAt
+  pub goes_in : (h s c k w b : ℕ) {t : Bool} → has s k ≡ has w b → k < n → h < get_or lengths k 0 → Joins picture w h b (get_or symbols (most_symbols * k + h) 0) c t
+      → goes_on (rules_in symbols lengths picture n) h s c k ≡ t
+  unfolding fits_at
   goes_in h s c k w b e l i j =
-      rw (size_in symbols lengths picture n k l, symbol-in symbols lengths picture n k h l i, lt-ltb h (get_or lengths k 0) i, e) (sym (j symbols lengths n))
+      rw (size_in symbols lengths picture n k l, symbol_in_lem symbols lengths picture n k h l i, lt-ltb h (get_or lengths k 0) i, e) (sym (j symbols lengths n))
 
-  pub stops-in : (h s c k : ℕ) → k < n → get_or lengths k 0 ≤ h → goesOn (rulesIn symbols lengths picture n) h s c k ≡ false
-  unfolding fitsAt
-  stops-in h s c k l i = rw (size_in symbols lengths picture n k l, le-ltb h (get_or lengths k 0) i)
+  pub stops_in : (h s c k : ℕ) → k < n → get_or lengths k 0 ≤ h → goes_on (rules_in symbols lengths picture n) h s c k ≡ false
+  unfolding fits_at
+  stops_in h s c k l i = rw (size_in symbols lengths picture n k l, le-ltb h (get_or lengths k 0) i)
 
-  pub onward-in : {x : ℕ} (h s c : ℕ) → x ≡ setWhere n (goesOn (rulesIn symbols lengths picture n) h s c) → x ≡ nextLive (rulesIn symbols lengths picture n) h s c
-  unfolding nextLive
-  onward-in h s c q = q ∙ rw (count-in symbols lengths picture n)
+  pub onward_in : {x : ℕ} (h s c : ℕ) → x ≡ set_where n (goes_on (rules_in symbols lengths picture n) h s c) → x ≡ next_live (rules_in symbols lengths picture n) h s c
+  unfolding next_live
+  onward_in h s c q = q ∙ rw (count_in_lem symbols lengths picture n)
 
 -- ---- lists
 

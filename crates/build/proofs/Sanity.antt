@@ -9,15 +9,15 @@ use borrow.Author.Tests.{le-ltb}
 use borrow.Author.Count.{below_none}
 use lib.Seq.{get_or-take}
 use lib.ListN.{length, get_or, take, drop, length-take, length-drop, length-append, get_or-append}
-use Rattle.sets.proofs.Laws.{setWhere-none}
-use Rattle.meaning.specs.Rules.{Rules, count, size, fitsAt}
-use Rattle.meaning.specs.Tables.{noEntry, gotoAt}
-use Rattle.meaning.specs.Step.{goesOn, nextLive, Follows, goes, falls}
-use Rattle.book.specs.Limits.{mostSymbols}
+use Rattle.sets.proofs.Laws.{set_where-none}
+use Rattle.meaning.specs.Rules.{Rules, count, size, fits_at}
+use Rattle.meaning.specs.Tables.{no_entry, goto_at}
+use Rattle.meaning.specs.Step.{goes_on, next_live, Follows, goes, falls}
+use Rattle.book.specs.Limits.{most_symbols}
 use Rattle.build.specs.Sets.{Short}
 use Rattle.build.specs.Course.{Others, number_at, Leads, Descends, RowsUsed, Rising, there, made, Place, root, none, some, Filling, begin, next, RowFilled, whole, RowsOk, IsEntry, Sane, RowBuilt, row_of, with_row, Building, start, grow, AllFilled, all}
 use Rattle.build.proofs.Laws.{below_set, All, all_append, all_take, all_drop, all_set}
-use Rattle.build.proofs.Steps.{stored-all, Kept, kept_refl, kept_more, place-keeps, filling-keeps, filling-long, filling-room, filling-rising}
+use Rattle.build.proofs.Steps.{stored_all, Kept, kept_refl, kept_more, place-keeps, filling-keeps, filling-long, filling-room, filling-rising}
 use Rattle.build.specs.declared.Placed.TheVariants as placed
 use Rattle.build.specs.declared.Filled.{Filled}
 use Rattle.build.specs.declared.Filled.TheVariants as filled
@@ -43,21 +43,21 @@ module _ {lent n : ℕ} {goto : List ℕ} {t : Others} (sane : Sane lent n goto 
       let le = fall-le s h in
       let room = sane.room in
       record {
-        whole = omega (arith, sane.goto-room);
+        whole = omega (arith, sane.goto_room);
         falls-within = omega arith;
         down = λ r k. sane.rows.down r (lt_of_le_of_lt (le_trans k le) h);
         last = sane.last;
       }
 
-  follows-below : {c r m e : ℕ} → Follows (gotoAt goto) (number_at t.fall) c r m e → e < n
-  follows-below (goes ne) = ⊎_elim (λ q. absurd (ne q)) (λ l. l) (sane.entries _)
-  follows-below (falls e f) = follows-below f
+  follows_below : {c r m e : ℕ} → Follows (goto_at goto) (number_at t.fall) c r m e → e < n
+  follows_below (goes ne) = ⊎_elim (λ q. absurd (ne q)) (λ l. l) (sane.entries _)
+  follows_below (falls e f) = follows_below f
 
-  pub leads-below : {c r e : ℕ} → Leads goto t.fall c r e → e < n
-  leads-below x = follows-below x.way
+  pub leads_below : {c r e : ℕ} → Leads goto t.fall c r e → e < n
+  leads_below x = follows_below x.way
 
   pub part-long : (s : ℕ) → s < n → length (part goto s) ≡ 256
-  part-long s h = simp (length-take, length-drop, span) (omega (arith, sane.goto-room, sane.room.used))
+  part-long s h = simp (length-take, length-drop, span) (omega (arith, sane.goto_room, sane.room.used))
 
 -- a row filled in the part of goto that was lent, which comes back in its place
 pub built : {r : Rules} {lent n s : ℕ} {goto : List ℕ} {t u : Others} {x : Filled} (via row : List ℕ)
@@ -68,34 +68,34 @@ built {r} {lent} {n} {s} {goto} {t} {u} {x} via row leads f =
     record { via = via; row = row; leads = leads; filled_row = rw span at f; put = rw span }
 
 -- a rule that goes on is longer than what is held
-on-short : {r : Rules} → Short r → (h s c : ℕ) → nextLive r h s c ≢ 0 → h < mostSymbols
-unfolding nextLive fitsAt
+on-short : {r : Rules} → Short r → (h s c : ℕ) → next_live r h s c ≢ 0 → h < most_symbols
+unfolding next_live fits_at
 on-short {r} short h s c ne =
-    lt_of_not-le (λ le. ne (setWhere-none (count r) (goesOn r h s c) (λ k i. simp (le-ltb h (size r k) (le_trans (short.at k i) le)))))
+    lt_of_not-le (λ le. ne (set_where-none (count r) (goes_on r h s c) (λ k i. simp (le-ltb h (size r k) (le_trans (short.at k i) le)))))
 
 -- after one byte, and after c bytes of row s
 record Entered (s e m : ℕ) (u : Others) : Type 0 where
   ok : RowsOk m u
   entry : IsEntry m e
-  rooted : s ≡ 0 → e ≢ noEntry
+  rooted : s ≡ 0 → e ≢ no_entry
 
 record Rowed (s c : ℕ) (row : List ℕ) (n : ℕ) (t : Others) : Type 0 where
   ok : RowsOk n t
   entries : All (IsEntry n) row
-  rooted : s ≡ 0 → (j : ℕ) → j < c → get_or row j 0 ≢ noEntry
+  rooted : s ≡ 0 → (j : ℕ) → j < c → get_or row j 0 ≢ no_entry
 
 module _ {r : Rules} {lent : ℕ} (short : Short r) where
-  place-sane : {s c v n e m : ℕ} {t u : Others} → RowsUsed lent n t → RowsOk n t → s < n → v < n → Place r lent s c v n t u (placed.Entry e m) → Entered s e m u
-  place-sane room ok hs hv (root z l) = record { ok = ok; entry = inr (omega arith); rooted = λ _ q. omega arith }
-  place-sane room ok hs hv (none nz l) = record { ok = ok; entry = inl refl; rooted = λ z _. nz z }
-  place-sane room ok hs hv (some ne (there i h k)) = record { ok = ok; entry = inr h; rooted = λ _ q. omega arith }
-  place-sane {s} {c} {v} {n} {t = t} room ok hs hv (some ne (made new more a)) =
+  place_sane : {s c v n e m : ℕ} {t u : Others} → RowsUsed lent n t → RowsOk n t → s < n → v < n → Place r lent s c v n t u (placed.Entry e m) → Entered s e m u
+  place_sane room ok hs hv (root z l) = record { ok = ok; entry = inr (omega arith); rooted = λ _ q. omega arith }
+  place_sane room ok hs hv (none nz l) = record { ok = ok; entry = inl refl; rooted = λ z _. nz z }
+  place_sane room ok hs hv (some ne (there i h k)) = record { ok = ok; entry = inr h; rooted = λ _ q. omega arith }
+  place_sane {s} {c} {v} {n} {t = t} room ok hs hv (some ne (made new more a)) =
       record {
         ok =
             record {
-              down = stored-all (λ k e. k ≢ 0 → e < k) a.fall-put ok.down (λ _. hv);
+              down = stored_all (λ k e. k ≢ 0 → e < k) a.fall-put ok.down (λ _. hv);
               first = a.fall-put.kept 0 (omega arith) ∙ ok.first;
-              short-held = stored-all (λ k e. e ≤ mostSymbols) a.held-put ok.short-held (omega (arith, on-short short _ _ _ ne));
+              short-held = stored_all (λ k e. e ≤ most_symbols) a.held-put ok.short-held (omega (arith, on-short short _ _ _ ne));
             };
         entry = inr (omega arith);
         rooted = λ _ q. omega arith;
@@ -103,21 +103,21 @@ module _ {r : Rules} {lent : ℕ} (short : Short r) where
 
   module _ {s n₀ : ℕ} {via row₀ : List ℕ} {t₀ : Others} (room : RowsUsed lent n₀ t₀) (ok : RowsOk n₀ t₀) (old : All (IsEntry n₀) row₀) (long : length row₀ ≡ 256) (hs : s < n₀)
       (hv : (c : ℕ) → c < 256 → get_or via c 0 < n₀) where
-    filling-sane : {c n : ℕ} {row : List ℕ} {t : Others} → c ≤ 256 → Filling r lent s via row₀ n₀ t₀ c row n t → Rowed s c row n t
-    filling-sane h begin = record { ok = ok; entries = old; rooted = λ z. below_none _ }
-    filling-sane h (next {c = c} {e = e} {row = row} f p) =
-        let k = filling-sane (omega arith) f in
+    filling_sane : {c n : ℕ} {row : List ℕ} {t : Others} → c ≤ 256 → Filling r lent s via row₀ n₀ t₀ c row n t → Rowed s c row n t
+    filling_sane h begin = record { ok = ok; entries = old; rooted = λ z. below_none _ }
+    filling_sane h (next {c = c} {e = e} {row = row} f p) =
+        let k = filling_sane (omega arith) f in
         let up = (filling-keeps f).grown in
-        let q = place-sane (filling-room room f) k.ok (lt_of_lt_of_le hs up) (lt_of_lt_of_le (hv c (omega arith)) up) p in
+        let q = place_sane (filling-room room f) k.ok (lt_of_lt_of_le hs up) (lt_of_lt_of_le (hv c (omega arith)) up) p in
         record {
           ok = q.ok;
           entries = all_set (IsEntry _) row c e (λ j. more (place-keeps p).grown (k.entries j)) q.entry;
-          rooted = λ z. below_set (λ _ x. x ≢ noEntry) row c e (omega (arith, filling-long f)) (k.rooted z) (q.rooted z);
+          rooted = λ z. below_set (λ _ x. x ≢ no_entry) row c e (omega (arith, filling-long f)) (k.rooted z) (q.rooted z);
         }
 
 -- a list with a row put in its place
-with-long : (goto : List ℕ) (s : ℕ) (row : List ℕ) → 256 * s + 256 ≤ length goto → length row ≡ 256 → length (with_row goto s row) ≡ length goto
-with-long goto s row h l = simp (length-append, length-take, length-drop, l) (omega arith)
+with_long : (goto : List ℕ) (s : ℕ) (row : List ℕ) → 256 * s + 256 ≤ length goto → length row ≡ 256 → length (with_row goto s row) ≡ length goto
+with_long goto s row h l = simp (length-append, length-take, length-drop, l) (omega arith)
 
 with_first : (P : ℕ → Type 0) (goto : List ℕ) (s : ℕ) (row : List ℕ) → 256 * s + 256 ≤ length goto → length row ≡ 256
     → ((c : ℕ) → c < 256 → P (get_or goto c 0)) → (s ≡ 0 → (c : ℕ) → c < 256 → P (get_or row c 0)) → (c : ℕ) → c < 256 → P (get_or (with_row goto s row) c 0)
@@ -125,45 +125,45 @@ with_first P goto zero row h l old new c lt = rw (get_or-append row _ 0 c (omega
 with_first P goto (suc s) row h l old new c lt =
     rw (get_or-append (take (256 * suc s) goto) _ 0 c (simp length-take (omega arith)), get_or-take (256 * suc s) goto c 0 (omega arith)) (old c lt)
 
-of-filled : {r : Rules} {lent s n m : ℕ} {via row₀ row : List ℕ} {t u : Others} → RowFilled r lent s via row₀ n t row u (filled.Rows m) → Kept n t m u
-of-filled (whole f) = filling-keeps f
+of_filled : {r : Rules} {lent s n m : ℕ} {via row₀ row : List ℕ} {t u : Others} → RowFilled r lent s via row₀ n t row u (filled.Rows m) → Kept n t m u
+of_filled (whole f) = filling-keeps f
 
-pub row-length : {r : Rules} {lent s n m : ℕ} {via row₀ row : List ℕ} {t u : Others} → RowFilled r lent s via row₀ n t row u (filled.Rows m) → length row ≡ length row₀
-row-length (whole f) = filling-long f
+pub row_length : {r : Rules} {lent s n m : ℕ} {via row₀ row : List ℕ} {t u : Others} → RowFilled r lent s via row₀ n t row u (filled.Rows m) → length row ≡ length row₀
+row_length (whole f) = filling-long f
 
 module _ {r : Rules} {lent n s : ℕ} {goto : List ℕ} {t : Others} (short : Short r) (sane : Sane lent n goto t) (hs : s < n) where
-  in-goto : 256 * s + 256 ≤ length goto
-  in-goto = omega (arith, sane.goto-room, sane.room.used)
+  in_goto : 256 * s + 256 ≤ length goto
+  in_goto = omega (arith, sane.goto_room, sane.room.used)
 
   -- row s filled and put in its place
   of_row : {u : Others} {m : ℕ} (via row : List ℕ) → ((c : ℕ) → c < 256 → Leads goto t.fall c (get_or t.fall s 0) (get_or via c 0))
       → RowFilled r lent s via (row_of goto s) n t row u (filled.Rows m) → Sane lent m (with_row goto s row) u
   of_row {m = m} via row leads (whole f) =
-      let long : length (row_of goto s) ≡ 256 = simp (length-take, length-drop) (omega (arith, in-goto)) in
-      let at-0 : IsEntry n 0 = inr (omega arith) in
-      let old = all_take (IsEntry n) 256 (drop (256 * s) goto) at-0 (all_drop (IsEntry n) (256 * s) goto sane.entries) in
-      let k = filling-sane short sane.room sane.rows old long hs (λ c h. leads-below sane (leads c h)) (le_refl 256) f in
+      let long : length (row_of goto s) ≡ 256 = simp (length-take, length-drop) (omega (arith, in_goto)) in
+      let at_0 : IsEntry n 0 = inr (omega arith) in
+      let old = all_take (IsEntry n) 256 (drop (256 * s) goto) at_0 (all_drop (IsEntry n) (256 * s) goto sane.entries) in
+      let k = filling_sane short sane.room sane.rows old long hs (λ c h. leads_below sane (leads c h)) (le_refl 256) f in
       let up = (filling-keeps f).grown in
       let keep : All (IsEntry m) goto = λ j. more up (sane.entries j) in
       record {
         room = filling-room sane.room f;
         rows = k.ok;
-        goto-room = rw (with-long goto s row in-goto (filling-long f ∙ long)) sane.goto-room;
+        goto_room = rw (with_long goto s row in_goto (filling-long f ∙ long)) sane.goto_room;
         entries =
-            all_append (IsEntry m) (take (256 * s) goto) (row ++ drop 256 (drop (256 * s) goto)) (all_take (IsEntry m) (256 * s) goto (more up at-0) keep)
+            all_append (IsEntry m) (take (256 * s) goto) (row ++ drop 256 (drop (256 * s) goto)) (all_take (IsEntry m) (256 * s) goto (more up at_0) keep)
             (all_append (IsEntry m) row (drop 256 (drop (256 * s) goto)) k.entries (all_drop (IsEntry m) 256 (drop (256 * s) goto) (all_drop (IsEntry m) (256 * s) goto keep)));
-        last = with_first (λ x. x ≢ noEntry) goto s row in-goto (filling-long f ∙ long) sane.last k.rooted;
+        last = with_first (λ x. x ≢ no_entry) goto s row in_goto (filling-long f ∙ long) sane.last k.rooted;
       }
 
   -- where row s is filled, all is as the next row relies on
-  pub row-sane : {goto' : List ℕ} {u : Others} {m : ℕ} → RowBuilt r lent n s goto t goto' u (filled.Rows m) → Sane lent m goto' u
-  row-sane {u = u} {m = m} x = subst⁻¹ (λ (g : List ℕ). Sane lent m g u) x.put (of_row x.via x.row x.leads x.filled_row)
+  pub row_sane : {goto' : List ℕ} {u : Others} {m : ℕ} → RowBuilt r lent n s goto t goto' u (filled.Rows m) → Sane lent m goto' u
+  row_sane {u = u} {m = m} x = subst⁻¹ (λ (g : List ℕ). Sane lent m g u) x.put (of_row x.via x.row x.leads x.filled_row)
 
   pub row_keeps : {goto' : List ℕ} {u : Others} {m : ℕ} → RowBuilt r lent n s goto t goto' u (filled.Rows m) → Kept n t m u
-  row_keeps x = of-filled x.filled_row
+  row_keeps x = of_filled x.filled_row
 
-  pub row-long : {goto' : List ℕ} {u : Others} {m : ℕ} → RowBuilt r lent n s goto t goto' u (filled.Rows m) → length goto' ≡ length goto
-  row-long x = ap length x.put ∙ with-long goto s x.row in-goto (row-length x.filled_row ∙ simp (length-take, length-drop) (omega (arith, in-goto)))
+  pub row_long : {goto' : List ℕ} {u : Others} {m : ℕ} → RowBuilt r lent n s goto t goto' u (filled.Rows m) → length goto' ≡ length goto
+  row_long x = ap length x.put ∙ with_long goto s x.row in_goto (row_length x.filled_row ∙ simp (length-take, length-drop) (omega (arith, in_goto)))
 
 -- the first s rows keep what the next relies on, and the tables' lengths
 pub record Grown (lent : ℕ) (goto₀ : List ℕ) (t₀ : Others) (n : ℕ) (goto : List ℕ) (t : Others) : Type 0 where
@@ -175,7 +175,7 @@ pub grown : {r : Rules} {lent s n : ℕ} {goto₀ goto : List ℕ} {t₀ t : Oth
 grown short sane₀ start = record { sane = sane₀; long = refl; kept = kept_refl 1 _ }
 grown short sane₀ (grow f h x) =
     let k = grown short sane₀ f in
-    record { sane = row-sane short k.sane h x; long = row-long short k.sane h x ∙ k.long; kept = kept_more k.kept (row_keeps short k.sane h x) }
+    record { sane = row_sane short k.sane h x; long = row_long short k.sane h x ∙ k.long; kept = kept_more k.kept (row_keeps short k.sane h x) }
 
 pub all-at : {r : Rules} {lent s n : ℕ} {goto₀ goto : List ℕ} {t₀ t : Others} → s ≡ n → Building r lent goto₀ t₀ s goto n t → AllFilled r lent goto₀ t₀ goto t (filled.Rows n)
 all-at {r} {lent} {s} {n} {goto₀} {goto} {t₀} {t} e f = all (subst (λ (k : ℕ). Building r lent goto₀ t₀ k goto n t) e f)

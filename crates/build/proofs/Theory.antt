@@ -11,58 +11,58 @@ use native.Mathlib.Decide.{dec_lt}
 use lib.Bits.{bit_or}
 use lib.ListN.{length, get_or, set, length-take, length-drop, length-replicate}
 use Rattle.rows.specs.Rows.{MoreThan}
-use Rattle.rows.proofs.Rows.{root as root-row}
+use Rattle.rows.proofs.Rows.{root as root_row}
 use Rattle.rows.proofs.Build.{length-snoc}
-use Rattle.sets.specs.Table.{rowWords, rulesAt}
+use Rattle.sets.specs.Table.{row_words, rules_at}
 use Rattle.sets.proofs.Table.{rules-none}
 use Rattle.meaning.specs.Rules.{Rules}
 use Rattle.meaning.specs.Standing.{Same}
-use Rattle.meaning.specs.Tables.{gotoAt, ZeroFrom, Tables}
+use Rattle.meaning.specs.Tables.{goto_at, ZeroFrom, Tables}
 use Rattle.meaning.specs.Step.{Follows, goes, falls}
 use Rattle.meaning.proofs.Congruent.{congruence}
-use Rattle.meaning.proofs.Unique.{rows-or-more}
-use Rattle.meaning.proofs.Build.{Filling as Filled-to, Built, Via, Put, Row, place-root, place_none, place-there, place-full, place-made, built-start, built-fill, built-via, built-next, built-finish}
+use Rattle.meaning.proofs.Unique.{rows_or_more}
+use Rattle.meaning.proofs.Build.{Filling as Filled-to, Built, Via, Put, Row, place-root, place_none, place-there, place-full, place-made, built-start, built_fill, built_via, built-next, built_finish}
 use Rattle.build.specs.Sets.{Short}
 use Rattle.lent.specs.Lent.{zeros, zeroed}
-use Rattle.promised.specs.Promise.{number_of, value_of, Builds, accepted, no_room}
-use Rattle.build.specs.Course.{Others, fiveOf, number_at, columnsOf, Stored, Added, Leads, RowsUsed, there, made, full, Place, root, none, some, Filling, begin, next, RowFilled, whole, short, Sane, RowBuilt, row_of, Building, start, grow, AllFilled, all, stuck, zeroOthers, Makes, rows, empty, refused}
+use Rattle.promised.specs.Promise.{number_of, value_of, Builds, accepted, no_room_lem}
+use Rattle.build.specs.Course.{Others, five_of, number_at, columns_of, Stored, Added, Leads, RowsUsed, there, made, full, Place, root, none, some, Filling, begin, next, RowFilled, whole, short, Sane, RowBuilt, row_of, Building, start, grow, AllFilled, all, stuck, zero_others, Makes, rows, empty, refused}
 use Rattle.promised.specs.declared.Built.{Built as Answer}
 use Rattle.build.specs.declared.Placed.TheVariants as placed
 use Rattle.build.specs.declared.Filled.TheVariants as filled
-use Rattle.sets.proofs.Zeros.{zero-at}
-use Rattle.build.proofs.Parts.{put-before, put_in, put-after}
-use Rattle.build.proofs.Steps.{stored-number, filling-keeps, filling-room, filling-long}
-use Rattle.build.proofs.Sanity.{Grown, grown, row-length}
-use Rattle.build.proofs.Zeroed.{zero-sane}
+use Rattle.sets.proofs.Zeros.{zero_at}
+use Rattle.build.proofs.Parts.{put_before, put_in, put_after}
+use Rattle.build.proofs.Steps.{stored_number, filling-keeps, filling-room, filling-long}
+use Rattle.build.proofs.Sanity.{Grown, grown, row_length}
+use Rattle.build.proofs.Zeroed.{zero_sane}
 
 -- ---- what is past the rows
 
 record Blanks (n : ℕ) (t : Others) : Type 0 where
   fall : ZeroFrom n t.fall
   held : ZeroFrom n t.held
-  live : ZeroFrom (rowWords * n) t.live
-  out : ZeroFrom (rowWords * n) t.out
+  live : ZeroFrom (row_words * n) t.live
+  out : ZeroFrom (row_words * n) t.out
 
-zero-stored : {w n v : ℕ} {read : List ℕ → ℕ → ℕ} {xs ys : List ℕ} → Stored w read n v xs ys → ZeroFrom (w * n) xs → ZeroFrom (w * (n + 1)) ys
-zero-stored {w} {n} st b i h = let l : w * n + w ≤ i = rw (add-one, mul-suc) at h in st.past i (rw mul-suc l) ∙ b i (omega arith)
+zero_stored : {w n v : ℕ} {read : List ℕ → ℕ → ℕ} {xs ys : List ℕ} → Stored w read n v xs ys → ZeroFrom (w * n) xs → ZeroFrom (w * (n + 1)) ys
+zero_stored {w} {n} st b i h = let l : w * n + w ≤ i = rw (add-one, mul-suc) at h in st.past i (rw mul-suc l) ∙ b i (omega arith)
 
-place-blank : {r : Rules} {lent s c v n e m : ℕ} {t u : Others} → Blanks n t → Place r lent s c v n t u (placed.Entry e m) → Blanks m u
-place-blank b (root z l) = b
-place-blank b (none z l) = b
-place-blank b (some l (there i h k)) = b
-place-blank b (some l (made new h a)) = record {
-  fall = λ i l. zero-stored a.fall-put (λ j k. b.fall j (omega arith)) i (omega arith);
-  held = λ i l. zero-stored a.held-put (λ j k. b.held j (omega arith)) i (omega arith);
-  live = zero-stored a.live-put b.live;
-  out = zero-stored a.out-put b.out;
+place_blank : {r : Rules} {lent s c v n e m : ℕ} {t u : Others} → Blanks n t → Place r lent s c v n t u (placed.Entry e m) → Blanks m u
+place_blank b (root z l) = b
+place_blank b (none z l) = b
+place_blank b (some l (there i h k)) = b
+place_blank b (some l (made new h a)) = record {
+  fall = λ i l. zero_stored a.fall-put (λ j k. b.fall j (omega arith)) i (omega arith);
+  held = λ i l. zero_stored a.held-put (λ j k. b.held j (omega arith)) i (omega arith);
+  live = zero_stored a.live-put b.live;
+  out = zero_stored a.out-put b.out;
 }
 
-filling-blank : {r : Rules} {lent s n₀ : ℕ} {via row₀ : List ℕ} {t₀ : Others} → Blanks n₀ t₀ → {c n : ℕ} {row : List ℕ} {t : Others} → Filling r lent s via row₀ n₀ t₀ c row n t → Blanks n t
-filling-blank b begin = b
-filling-blank b (next f p) = place-blank (filling-blank b f) p
+filling_blank : {r : Rules} {lent s n₀ : ℕ} {via row₀ : List ℕ} {t₀ : Others} → Blanks n₀ t₀ → {c n : ℕ} {row : List ℕ} {t : Others} → Filling r lent s via row₀ n₀ t₀ c row n t → Blanks n t
+filling_blank b begin = b
+filling_blank b (next f p) = place_blank (filling_blank b f) p
 
-filled-blank : {r : Rules} {lent s n m : ℕ} {via row₀ row : List ℕ} {t u : Others} → Blanks n t → RowFilled r lent s via row₀ n t row u (filled.Rows m) → Blanks m u
-filled-blank b (whole f) = filling-blank b f
+filled_blank : {r : Rules} {lent s n m : ℕ} {via row₀ row : List ℕ} {t u : Others} → Blanks n t → RowFilled r lent s via row₀ n t row u (filled.Rows m) → Blanks m u
+filled_blank b (whole f) = filling_blank b f
 
 -- ---- one row
 
@@ -70,37 +70,37 @@ filled-blank b (whole f) = filling-blank b f
 record InRow (r : Rules) (goto via row : List ℕ) (s c n : ℕ) (t : Others) : Type 0 where
   ts : List (List ℕ)
   count : length ts ≡ n
-  is : Filled-to r ts (gotoAt goto) (number_at via) (number_at row) (columnsOf t) s c
+  is : Filled-to r ts (goto_at goto) (number_at via) (number_at row) (columns_of t) s c
 
-put-stored : {w n v : ℕ} {read : List ℕ → ℕ → ℕ} {xs ys : List ℕ} → Stored w read n v xs ys → Put n v (read xs) (read ys)
-put-stored st = record { kept = st.kept; here = st.here }
+put_stored : {w n v : ℕ} {read : List ℕ → ℕ → ℕ} {xs ys : List ℕ} → Stored w read n v xs ys → Put n v (read xs) (read ys)
+put_stored st = record { kept = st.kept; here = st.here }
 
 -- an entry more in a row, and a row more in the tables
 put-entry : (row : List ℕ) (c e : ℕ) → c < length row → Put c e (number_at row) (number_at (set row c e))
-put-entry row c e h = put-stored (stored-number c e row h)
+put-entry row c e h = put_stored (stored_number c e row h)
 
-added-row : {e n h l f : ℕ} {t u : Others} → Added e n h l f t u → Row n f h l (bit_or e (rulesAt t.out f)) (columnsOf t) (columnsOf u)
-added-row a = record { fall-put = put-stored a.fall-put; held-put = put-stored a.held-put; live-put = put-stored a.live-put; out-put = put-stored a.out-put }
+added_row : {e n h l f : ℕ} {t u : Others} → Added e n h l f t u → Row n f h l (bit_or e (rules_at t.out f)) (columns_of t) (columns_of u)
+added_row a = record { fall-put = put_stored a.fall-put; held-put = put_stored a.held-put; live-put = put_stored a.live-put; out-put = put_stored a.out-put }
 
-module _ {r : Rules} (goto via row : List ℕ) {s c : ℕ} (t : Others) {ts : List (List ℕ)} (f : Filled-to r ts (gotoAt goto) (number_at via) (number_at row) (columnsOf t) s c)
+module _ {r : Rules} (goto via row : List ℕ) {s c : ℕ} (t : Others) {ts : List (List ℕ)} (f : Filled-to r ts (goto_at goto) (number_at via) (number_at row) (columns_of t) s c)
     (l : s < length ts) (byte : c < 256) (wide : c < length row) where
   placed_on : {lent e m : ℕ} {u : Others} → Place r lent s c (get_or via c 0) (length ts) t u (placed.Entry e m) → InRow r goto via (set row c e) s (c + 1) m u
   placed_on (root z dry) = record { ts = ts; count = refl; is = place-root f l byte dry z (put-entry row c _ wide) }
   placed_on (none nz dry) = record { ts = ts; count = refl; is = place_none f l byte dry (omega arith) (put-entry row c _ wide) }
-  placed_on (some wet (there i h k)) = record { ts = ts; count = refl; is = place-there f l byte wet i h (k.held-is, k.live-is, k.fall-is) (put-entry row c i wide) }
+  placed_on (some wet (there i h k)) = record { ts = ts; count = refl; is = place-there f l byte wet i h (k.held_is, k.live_is, k.fall_is) (put-entry row c i wide) }
   placed_on (some wet (made new h a)) =
       record {
         ts = ts ++ (c ∷ get_or ts s []) ∷ [];
         count = length-snoc ts (c ∷ get_or ts s []) ∙ omega arith;
         is =
-            place-made f l byte wet (λ i k (x, y, z). new i k (record { held-is = x; live-is = y; fall-is = z }))
-            (put-entry row c (length ts) wide) (added-row a);
+            place-made f l byte wet (λ i k (x, y, z). new i k (record { held_is = x; live_is = y; fall_is = z }))
+            (put-entry row c (length ts) wide) (added_row a);
       }
 
-  placed-full : {lent : ℕ} {u : Others} → RowsUsed lent (length ts) t → Place r lent s c (get_or via c 0) (length ts) t u placed.Full → MoreThan (Same r) lent
-  placed-full {lent} room (some wet (full new h)) =
+  placed_full : {lent : ℕ} {u : Others} → RowsUsed lent (length ts) t → Place r lent s c (get_or via c 0) (length ts) t u placed.Full → MoreThan (Same r) lent
+  placed_full {lent} room (some wet (full new h)) =
       let e : length ts ≡ lent = omega (arith, room.used) in
-      subst (MoreThan (Same r)) e (place-full f l byte wet (λ i k (x, y, z). new i k (record { held-is = x; live-is = y; fall-is = z })))
+      subst (MoreThan (Same r)) e (place-full f l byte wet (λ i k (x, y, z). new i k (record { held_is = x; live_is = y; fall_is = z })))
 
 module _ {r : Rules} {goto via row₀ : List ℕ} {lent s n₀ : ℕ} {t₀ : Others} (room : RowsUsed lent n₀ t₀) (hs : s < n₀) (long : length row₀ ≡ 256)
     (x : InRow r goto via row₀ s 0 n₀ t₀) where
@@ -112,14 +112,14 @@ module _ {r : Rules} {goto via row₀ : List ℕ} {lent s n₀ : ℕ} {t₀ : Ot
       placed_on goto via row t k.is (omega (arith, k.count)) (omega arith) (omega (arith, filling-long f))
       (subst⁻¹ (λ (i : ℕ). Place r lent s c (get_or via c 0) i t u (placed.Entry e m)) k.count p)
 
-  row-whole : {m : ℕ} {row : List ℕ} {u : Others} → RowFilled r lent s via row₀ n₀ t₀ row u (filled.Rows m) → InRow r goto via row s 256 m u
-  row-whole (whole f) = in_row (le_refl 256) f
+  row_whole : {m : ℕ} {row : List ℕ} {u : Others} → RowFilled r lent s via row₀ n₀ t₀ row u (filled.Rows m) → InRow r goto via row s 256 m u
+  row_whole (whole f) = in_row (le_refl 256) f
 
-  row-short : {row : List ℕ} {u : Others} → RowFilled r lent s via row₀ n₀ t₀ row u filled.Full → MoreThan (Same r) lent
-  row-short {row = row} {u = u} (short {c = c} {t = t} h f p) =
+  row_short : {row : List ℕ} {u : Others} → RowFilled r lent s via row₀ n₀ t₀ row u filled.Full → MoreThan (Same r) lent
+  row_short {row = row} {u = u} (short {c = c} {t = t} h f p) =
       let k = in_row (omega arith) f in
       let up = (filling-keeps f).grown in
-      placed-full goto via row t k.is (omega (arith, k.count)) h (omega (arith, filling-long f))
+      placed_full goto via row t k.is (omega (arith, k.count)) h (omega (arith, filling-long f))
       (subst⁻¹ (λ (i : ℕ). RowsUsed lent i t) k.count (filling-room room f))
       (subst⁻¹ (λ (i : ℕ). Place r lent s c (get_or via c 0) i t u placed.Full) k.count p)
 
@@ -129,61 +129,61 @@ module _ {r : Rules} {goto via row₀ : List ℕ} {lent s n₀ : ℕ} {t₀ : Ot
 record SoFar (r : Rules) (s : ℕ) (goto : List ℕ) (n : ℕ) (t : Others) : Type 0 where
   ts : List (List ℕ)
   count : length ts ≡ n
-  is : Built r ts (gotoAt goto) (columnsOf t) s
-  goto-blank : ZeroFrom (256 * s) goto
+  is : Built r ts (goto_at goto) (columns_of t) s
+  goto_blank : ZeroFrom (256 * s) goto
   blanks : Blanks n t
 
 -- where goto is all 0, every byte leads to row 0
-follows-zero : (goto fall : List ℕ) {c s m e : ℕ} → ZeroFrom 0 goto → Follows (gotoAt goto) (number_at fall) c s m e → e ≡ 0
-follows-zero goto fall {c = c} {s = s} b (goes ne) = b (256 * s + c) (omega arith)
-follows-zero goto fall {c = c} {s = s} b (falls q f) = absurd (omega (arith, b (256 * s + c) (omega arith)))
+follows_zero : (goto fall : List ℕ) {c s m e : ℕ} → ZeroFrom 0 goto → Follows (goto_at goto) (number_at fall) c s m e → e ≡ 0
+follows_zero goto fall {c = c} {s = s} b (goes ne) = b (256 * s + c) (omega arith)
+follows_zero goto fall {c = c} {s = s} b (falls q f) = absurd (omega (arith, b (256 * s + c) (omega arith)))
 
 module _ {r : Rules} {lent s n : ℕ} {goto : List ℕ} {t : Others} (sane : Sane lent n goto t) (h : s < n) (k : SoFar r s goto n t) where
   fits : 256 * s + 256 ≤ length goto
-  fits = omega (arith, sane.goto-room, sane.room.used)
+  fits = omega (arith, sane.goto_room, sane.room.used)
 
   lent-long : length (row_of goto s) ≡ 256
   lent-long = simp (length-take, length-drop) (omega (arith, fits))
 
-  via-right : (via : List ℕ) → ((c : ℕ) → c < 256 → Leads goto t.fall c (get_or t.fall s 0) (get_or via c 0)) → (c : ℕ) → c < 256 → Via r k.ts s c (get_or via c 0)
-  via-right via leads c byte =
+  via_right : (via : List ℕ) → ((c : ℕ) → c < 256 → Leads goto t.fall c (get_or t.fall s 0) (get_or via c 0)) → (c : ℕ) → c < 256 → Via r k.ts s c (get_or via c 0)
+  via_right via leads c byte =
       elim (dec_lt 0 s) [
-        | yes p ↦ built-via k.is (omega (arith, k.count)) (omega (arith, k.count, sane.room.used, sane.room.few)) p c byte (leads c byte).way
-        | no g ↦ record { first = λ z. follows-zero goto t.fall (λ i l. k.goto-blank i (omega arith)) (leads c byte).way; later = λ p. absurd (g p) }
+        | yes p ↦ built_via k.is (omega (arith, k.count)) (omega (arith, k.count, sane.room.used, sane.room.few)) p c byte (leads c byte).way
+        | no g ↦ record { first = λ z. follows_zero goto t.fall (λ i l. k.goto_blank i (omega arith)) (leads c byte).way; later = λ p. absurd (g p) }
       ]
 
   opened : (via : List ℕ) → ((c : ℕ) → c < 256 → Leads goto t.fall c (get_or t.fall s 0) (get_or via c 0)) → InRow r goto via (row_of goto s) s 0 n t
-  opened via leads = record { ts = k.ts; count = k.count; is = built-fill k.is (number_at via) (number_at (row_of goto s)) (via-right via leads) }
+  opened via leads = record { ts = k.ts; count = k.count; is = built_fill k.is (number_at via) (number_at (row_of goto s)) (via_right via leads) }
 
-  row-crowded : {goto' : List ℕ} {u : Others} → RowBuilt r lent n s goto t goto' u filled.Full → MoreThan (Same r) lent
-  row-crowded x = row-short sane.room h lent-long (opened x.via x.leads) x.filled_row
+  row_crowded : {goto' : List ℕ} {u : Others} → RowBuilt r lent n s goto t goto' u filled.Full → MoreThan (Same r) lent
+  row_crowded x = row_short sane.room h lent-long (opened x.via x.leads) x.filled_row
 
   row_more : {goto' : List ℕ} {u : Others} {m : ℕ} → RowBuilt r lent n s goto t goto' u (filled.Rows m) → SoFar r (s + 1) goto' m u
   row_more {goto' = goto'} x =
-      let w = row-whole sane.room h lent-long (opened x.via x.leads) x.filled_row in
-      let long = row-length x.filled_row ∙ lent-long in
+      let w = row_whole sane.room h lent-long (opened x.via x.leads) x.filled_row in
+      let long = row_length x.filled_row ∙ lent-long in
       record {
         ts = w.ts;
         count = w.count;
         is =
-            built-next w.is (λ q e l byte. rw x.put (put-before goto x.row (256 * s) 256 fits long (256 * q + e) (omega arith)))
+            built-next w.is (λ q e l byte. rw x.put (put_before goto x.row (256 * s) 256 fits long (256 * q + e) (omega arith)))
             (λ e byte. rw x.put (put_in goto x.row (256 * s) 256 fits long e byte));
-        goto-blank = λ i l.
+        goto_blank = λ i l.
             let q : i ≡ 256 * s + (256 + (i - (256 * s + 256))) = omega arith in
-            rw (x.put, q) (put-after goto x.row (256 * s) 256 fits long (i - (256 * s + 256)) ∙ k.goto-blank _ (omega arith));
-        blanks = filled-blank k.blanks x.filled_row;
+            rw (x.put, q) (put_after goto x.row (256 * s) 256 fits long (i - (256 * s + 256)) ∙ k.goto_blank _ (omega arith));
+        blanks = filled_blank k.blanks x.filled_row;
       }
 
-tables-of : {r : Rules} {n : ℕ} {goto : List ℕ} {t : Others} → SoFar r n goto n t → Tables r (fiveOf goto t) n
-tables-of k =
-    let (all-rows, gotos) = built-finish k.is (omega (arith, k.count)) in
+tables_of : {r : Rules} {n : ℕ} {goto : List ℕ} {t : Others} → SoFar r n goto n t → Tables r (five_of goto t) n
+tables_of k =
+    let (all-rows, gotos) = built_finish k.is (omega (arith, k.count)) in
     record {
       texts = k.ts;
       count = k.count;
       rows = all-rows;
       numbers = k.is.numbers;
       gotos = gotos;
-      rest = record { goto-rest = k.goto-blank; fall-rest = k.blanks.fall; held-rest = k.blanks.held; live-rest = k.blanks.live; out-rest = k.blanks.out };
+      rest = record { goto_rest = k.goto_blank; fall-rest = k.blanks.fall; held-rest = k.blanks.held; live-rest = k.blanks.live; out-rest = k.blanks.out };
     }
 
 module _ {r : Rules} {lent : ℕ} {goto₀ : List ℕ} {t₀ : Others} (small : Short r) (sane : Sane lent 1 goto₀ t₀) (blank : ZeroFrom 0 goto₀) (blanks : Blanks 0 t₀) where
@@ -192,9 +192,9 @@ module _ {r : Rules} {lent : ℕ} {goto₀ : List ℕ} {t₀ : Others} (small : 
     ts = [] ∷ [];
     count = refl;
     is =
-        built-start r (gotoAt goto₀) (columnsOf t₀) (blanks.fall 0 (omega arith)) (blanks.held 0 (omega arith))
-        (rules-none t₀.live 0 (λ j h. blanks.live (rowWords * 0 + j) (omega arith))) (rules-none t₀.out 0 (λ j h. blanks.out (rowWords * 0 + j) (omega arith)));
-    goto-blank = λ i l. blank i (omega arith);
+        built-start r (goto_at goto₀) (columns_of t₀) (blanks.fall 0 (omega arith)) (blanks.held 0 (omega arith))
+        (rules-none t₀.live 0 (λ j h. blanks.live (row_words * 0 + j) (omega arith))) (rules-none t₀.out 0 (λ j h. blanks.out (row_words * 0 + j) (omega arith)));
+    goto_blank = λ i l. blank i (omega arith);
     blanks = record {
       fall = λ i l. blanks.fall i (omega arith);
       held = λ i l. blanks.held i (omega arith);
@@ -204,20 +204,20 @@ module _ {r : Rules} {lent : ℕ} {goto₀ : List ℕ} {t₀ : Others} (small : 
   }
   building (grow f h x) = row_more (grown small sane f).sane h (building f) x
 
-  accepted-of : {goto : List ℕ} {u : Others} {n : ℕ} → AllFilled r lent goto₀ t₀ goto u (filled.Rows n) → (Grown lent goto₀ t₀ n goto u) × (SoFar r n goto n u)
-  accepted-of (all f) = (grown small sane f, building f)
+  accepted_of : {goto : List ℕ} {u : Others} {n : ℕ} → AllFilled r lent goto₀ t₀ goto u (filled.Rows n) → (Grown lent goto₀ t₀ n goto u) × (SoFar r n goto n u)
+  accepted_of (all f) = (grown small sane f, building f)
 
-  crowded-of : {goto : List ℕ} {u : Others} → AllFilled r lent goto₀ t₀ goto u filled.Full → MoreThan (Same r) lent
-  crowded-of (stuck f h x) = row-crowded (grown small sane f).sane h (building f) x
+  crowded_of : {goto : List ℕ} {u : Others} → AllFilled r lent goto₀ t₀ goto u filled.Full → MoreThan (Same r) lent
+  crowded_of (stuck f h x) = row_crowded (grown small sane f).sane h (building f) x
 
 -- ---- the whole, from tables of zeros
 
-zero-blanks : (t : Others) → Blanks 0 (zeroOthers t)
+zero-blanks : (t : Others) → Blanks 0 (zero_others t)
 zero-blanks t = record {
-  fall = λ i l. zero-at (length t.fall) i;
-  held = λ i l. zero-at (length t.held) i;
-  live = λ i l. zero-at (length t.live) i;
-  out = λ i l. zero-at (length t.out) i;
+  fall = λ i l. zero_at (length t.fall) i;
+  held = λ i l. zero_at (length t.held) i;
+  live = λ i l. zero_at (length t.live) i;
+  out = λ i l. zero_at (length t.out) i;
 }
 
 as_long : {n : ℕ} (old : List ℕ) → n ≡ length (zeros old) → n ≡ length old
@@ -225,20 +225,20 @@ as_long old e = e ∙ length-replicate (length old) 0
 
 -- where no row is lent
 none_lent : (r : Rules) → MoreThan (Same r) 0
-none_lent r = elim (rows-or-more r 0) [ inl m ↦ m | inr a ↦ absurd (omega (arith, a.few, (root-row (congruence r) a.rows).0)) ]
+none_lent r = elim (rows_or_more r 0) [ inl m ↦ m | inr a ↦ absurd (omega (arith, a.few, (root_row (congruence r) a.rows).0)) ]
 
-pub builds-of : {r : Rules} → Short r → (goto : List ℕ) (t : Others) {goto' : List ℕ} {u : Others} {x : Answer} → Makes r goto t goto' u x
-    → Builds r (fiveOf goto t) (fiveOf goto' u) (number_of x) (value_of x)
-builds-of {r} small goto t (rows ne f) =
-    let (g, k) = accepted-of small (zero-sane goto t ne) (λ i l. zero-at (length goto) i) (zero-blanks t) f in
-    accepted g.sane.room.used (tables-of k)
+pub builds_of : {r : Rules} → Short r → (goto : List ℕ) (t : Others) {goto' : List ℕ} {u : Others} {x : Answer} → Makes r goto t goto' u x
+    → Builds r (five_of goto t) (five_of goto' u) (number_of x) (value_of x)
+builds_of {r} small goto t (rows ne f) =
+    let (g, k) = accepted_of small (zero_sane goto t ne) (λ i l. zero_at (length goto) i) (zero-blanks t) f in
+    accepted g.sane.room.used (tables_of k)
     (record {
-      goto-long = as_long goto g.long;
+      goto_long = as_long goto g.long;
       fall-long = as_long t.fall g.kept.fall.long;
       held-long = as_long t.held g.kept.held.long;
       live-long = as_long t.live g.kept.live.long;
       out-long = as_long t.out g.kept.out.long;
     })
-builds-of {r} small goto t (empty z) =
-    subst (λ (n : ℕ). Builds r (fiveOf goto t) (zeroed (fiveOf goto t)) 10 n) z (no_room (subst⁻¹ (MoreThan (Same r)) z (none_lent r)))
-builds-of {r} small goto t (refused ne f) = no_room (crowded-of small (zero-sane goto t ne) (λ i l. zero-at (length goto) i) (zero-blanks t) f)
+builds_of {r} small goto t (empty z) =
+    subst (λ (n : ℕ). Builds r (five_of goto t) (zeroed (five_of goto t)) 10 n) z (no_room_lem (subst⁻¹ (MoreThan (Same r)) z (none_lent r)))
+builds_of {r} small goto t (refused ne f) = no_room_lem (crowded_of small (zero_sane goto t ne) (λ i l. zero_at (length goto) i) (zero-blanks t) f)

@@ -2,11 +2,11 @@
 -- Assumes nothing.
 use Rattle.std.specs.Prelude.{◌≡◌, ◌≢◌, ◌⊎◌, List, ◌++◌, ℕ, suc, ◌+◌, ◌*◌, ◌%◌, ◌≤◌, ◌<◌, length, get_or, set, take, drop}
 use Rattle.std.specs.Int.Bits.{bit_or}
-use Rattle.sets.specs.Table.{rowWords, rulesAt}
+use Rattle.sets.specs.Table.{row_words, rules_at}
 use Rattle.meaning.specs.Rules.{Rules}
-use Rattle.meaning.specs.Tables.{noEntry, Columns, Five, gotoAt}
-use Rattle.meaning.specs.Step.{nextLive, finished, Follows}
-use Rattle.book.specs.Limits.{mostSymbols, mostRows}
+use Rattle.meaning.specs.Tables.{no_entry, Columns, Five, goto_at}
+use Rattle.meaning.specs.Step.{next_live, finished, Follows}
+use Rattle.book.specs.Limits.{most_symbols, most_rows}
 use Rattle.lent.specs.Lent.{five, lent, zeros}
 use Rattle.build.specs.declared.Placed.{Placed}
 use Rattle.build.specs.declared.Placed.TheVariants as placed
@@ -27,15 +27,15 @@ abbrev pub others : List ℕ → List ℕ → List ℕ → List ℕ → Others
 others f h l o = record { fall = f; held = h; live = l; out = o }
 
 -- with goto they are the five
-abbrev pub fiveOf : List ℕ → Others → Five
-fiveOf goto t = five goto t.fall t.held t.live t.out
+abbrev pub five_of : List ℕ → Others → Five
+five_of goto t = five goto t.fall t.held t.live t.out
 
 -- the number of row i in a table with one place a row
 abbrev pub number_at : List ℕ → ℕ → ℕ
 number_at xs i = get_or xs i 0
 
-abbrev pub columnsOf : Others → Columns
-columnsOf t = record { fall = number_at t.fall; held = number_at t.held; live = rulesAt t.live; out = rulesAt t.out }
+abbrev pub columns_of : Others → Columns
+columns_of t = record { fall = number_at t.fall; held = number_at t.held; live = rules_at t.live; out = rules_at t.out }
 
 -- in a table with w places a row, which is read so, row n is v now; the rows before it and the places past it are as they were
 pub record Stored (w : ℕ) (read : List ℕ → ℕ → ℕ) (n v : ℕ) (xs ys : List ℕ) : Type 0 where
@@ -48,16 +48,16 @@ pub record Stored (w : ℕ) (read : List ℕ → ℕ → ℕ) (n v : ℕ) (xs ys
 pub record Added (e n h l f : ℕ) (t u : Others) : Type 0 where
   pub fall-put : Stored 1 number_at n f t.fall u.fall
   pub held-put : Stored 1 number_at n h t.held u.held
-  pub live-put : Stored rowWords rulesAt n l t.live u.live
-  pub out-put : Stored rowWords rulesAt n (bit_or e (rulesAt t.out f)) t.out u.out
+  pub live-put : Stored row_words rules_at n l t.live u.live
+  pub out-put : Stored row_words rules_at n (bit_or e (rules_at t.out f)) t.out u.out
 
 -- ---- the search for a row
 
 -- row i has these three numbers
 pub record Key (held live fall : List ℕ) (h l f i : ℕ) : Type 0 where
-  pub held-is : get_or held i 0 ≡ h
-  pub live-is : rulesAt live i ≡ l
-  pub fall-is : get_or fall i 0 ≡ f
+  pub held_is : get_or held i 0 ≡ h
+  pub live_is : rules_at live i ≡ l
+  pub fall_is : get_or fall i 0 ≡ f
 
 -- r is one of the n rows with these three numbers, or n or more where there is none
 pub record Found (held live fall : List ℕ) (n h l f r : ℕ) : Type 0 where
@@ -71,11 +71,11 @@ pub record Rising (held : List ℕ) (n h : ℕ) : Type 0 where
   pub low : get_or held 0 0 < h
 
 -- the chain of a row with this fall and live set, and that of row i
-abbrev pub chainOf : ℕ → ℕ → ℕ
-chainOf f l = (f + l % 4093) % mostRows
+abbrev pub chain_of : ℕ → ℕ → ℕ
+chain_of f l = (f + l % 4093) % most_rows
 
-abbrev pub chainAt : List ℕ → List ℕ → ℕ → ℕ
-chainAt fall live i = chainOf (get_or fall i 0) (rulesAt live i)
+abbrev pub chain_at : List ℕ → List ℕ → ℕ → ℕ
+chain_at fall live i = chain_of (get_or fall i 0) (rules_at live i)
 
 -- i is the newest of the rows below n, row 0 apart, in the chain g, where `chain` has the chain of each row; 0 where there is none
 pub record Newest (chain : ℕ → ℕ) (n g i : ℕ) : Type 0 where
@@ -85,8 +85,8 @@ pub record Newest (chain : ℕ → ℕ) (n g i : ℕ) : Type 0 where
 
 -- the rows in chains: `first` has the newest row of each chain, and `older` for each row the next one in its chain
 pub record Chains (first older : List ℕ) (chain : ℕ → ℕ) (n : ℕ) : Type 0 where
-  pub first-long : length first ≡ mostRows
-  pub older-long : length older ≡ mostRows
+  pub first-long : length first ≡ most_rows
+  pub older_long : length older ≡ most_rows
   pub heads : (g : ℕ) → Newest chain n g (get_or first g 0)
   pub links : (i : ℕ) → i < n → i ≢ 0 → Newest chain i (chain i) (get_or older i 0)
 
@@ -103,12 +103,12 @@ pub data RowOf (e lent n h l f : ℕ) (t : Others) : Others → Placed → Type 
 
 -- the rules that go on from row s with the byte c
 abbrev pub onward : Rules → Others → ℕ → ℕ → ℕ
-onward r t s c = nextLive r (get_or t.held s 0) (rulesAt t.live s) c
+onward r t s c = next_live r (get_or t.held s 0) (rules_at t.live s) c
 
 -- the entry of row s for the byte c, where the fall of s leads to v
 pub data Place (r : Rules) (lent s c v n : ℕ) (t : Others) : Others → Placed → Type 0 where
   root : s ≡ 0 → onward r t s c ≡ 0 → Place r lent s c v n t t (placed.Entry 0 n)
-  none : s ≢ 0 → onward r t s c ≡ 0 → Place r lent s c v n t t (placed.Entry noEntry n)
+  none : s ≢ 0 → onward r t s c ≡ 0 → Place r lent s c v n t t (placed.Entry no_entry n)
   some : {u : Others} {x : Placed} → onward r t s c ≢ 0
       → RowOf (finished r (get_or t.held s 0 + 1) (onward r t s c)) lent n (get_or t.held s 0 + 1) (onward r t s c) v t u x → Place r lent s c v n t u x
 
@@ -129,48 +129,48 @@ pub data RowFilled (r : Rules) (lent s : ℕ) (via row₀ : List ℕ) (n₀ : �
 -- the byte c leads from row s to row e, by falls
 pub record Leads (goto fall : List ℕ) (c s e : ℕ) : Type 0 where
   pub falls-made : ℕ
-  pub way : Follows (gotoAt goto) (number_at fall) c s falls-made e
+  pub way : Follows (goto_at goto) (number_at fall) c s falls-made e
 
 -- what the falls from a row rest on: each is below its row, the rows are whole, and row 0 always goes on
 pub record Descends (goto fall : List ℕ) (row : ℕ) : Type 0 where
   pub whole : 256 * (row + 1) ≤ length goto
   pub falls-within : row < length fall
   pub down : (r : ℕ) → r ≤ row → r ≢ 0 → get_or fall r 0 < r
-  pub last : (c : ℕ) → c < 256 → get_or goto c 0 ≢ noEntry
+  pub last : (c : ℕ) → c < 256 → get_or goto c 0 ≢ no_entry
 
 -- n rows are used of those lent
 pub record RowsUsed (lent n : ℕ) (t : Others) : Type 0 where
   pub used : n ≤ lent
-  pub few : lent ≤ mostRows
+  pub few : lent ≤ most_rows
   pub fall-room : lent ≤ length t.fall
   pub held-room : lent ≤ length t.held
-  pub live-room : rowWords * lent ≤ length t.live
-  pub out-room : rowWords * lent ≤ length t.out
+  pub live-room : row_words * lent ≤ length t.live
+  pub out-room : row_words * lent ≤ length t.out
 
 -- row s is in hand: no row holds more than one byte more than it
 pub record InHand (lent n s : ℕ) (t : Others) : Type 0 where
   pub room : RowsUsed lent n t
   pub row : s < n
-  pub short-held : get_or t.held s 0 ≤ mostSymbols
+  pub short-held : get_or t.held s 0 ≤ most_symbols
   pub rising : Rising t.held n (get_or t.held s 0 + 1)
 
 -- the n rows fall to lower ones, and hold short lengths
 pub record RowsOk (n : ℕ) (t : Others) : Type 0 where
   pub down : (i : ℕ) → i < n → i ≢ 0 → get_or t.fall i 0 < i
   pub first : get_or t.fall 0 0 ≡ 0
-  pub short-held : (i : ℕ) → i < n → get_or t.held i 0 ≤ mostSymbols
+  pub short-held : (i : ℕ) → i < n → get_or t.held i 0 ≤ most_symbols
 
 -- an entry of goto, with n rows
 abbrev pub IsEntry : ℕ → ℕ → Type 0
-IsEntry n e = (e ≡ noEntry) ⊎ (e < n)
+IsEntry n e = (e ≡ no_entry) ⊎ (e < n)
 
 -- what the code of a build relies on
 pub record Sane (lent n : ℕ) (goto : List ℕ) (t : Others) : Type 0 where
   pub room : RowsUsed lent n t
   pub rows : RowsOk n t
-  pub goto-room : 256 * lent ≤ length goto
+  pub goto_room : 256 * lent ≤ length goto
   pub entries : (j : ℕ) → IsEntry n (get_or goto j 0)
-  pub last : (c : ℕ) → c < 256 → get_or goto c 0 ≢ noEntry
+  pub last : (c : ℕ) → c < 256 → get_or goto c 0 ≢ no_entry
 
 -- the part of goto for row s, and goto with another row there
 abbrev pub row_of : List ℕ → ℕ → List ℕ
@@ -202,16 +202,16 @@ pub data AllFilled (r : Rules) (lent : ℕ) (goto₀ : List ℕ) (t₀ : Others)
       → AllFilled r lent goto₀ t₀ goto' u filled.Full
 
 -- the rows lent, and the tables with every entry 0
-abbrev pub rowsLent : List ℕ → Others → ℕ
-rowsLent goto t = lent (fiveOf goto t)
+abbrev pub rows_lent : List ℕ → Others → ℕ
+rows_lent goto t = lent (five_of goto t)
 
-abbrev pub zeroOthers : Others → Others
-zeroOthers t = others (zeros t.fall) (zeros t.held) (zeros t.live) (zeros t.out)
+abbrev pub zero_others : Others → Others
+zero_others t = others (zeros t.fall) (zeros t.held) (zeros t.live) (zeros t.out)
 
 -- a build: every row from tables of zeros, or no room and every entry 0
 pub data Makes (r : Rules) (goto : List ℕ) (t : Others) : List ℕ → Others → Built → Type 0 where
-  rows : {n : ℕ} {goto' : List ℕ} {u : Others} → rowsLent goto t ≢ 0 → AllFilled r (rowsLent goto t) (zeros goto) (zeroOthers t) goto' u (filled.Rows n)
+  rows : {n : ℕ} {goto' : List ℕ} {u : Others} → rows_lent goto t ≢ 0 → AllFilled r (rows_lent goto t) (zeros goto) (zero_others t) goto' u (filled.Rows n)
       → Makes r goto t goto' u (built.Rows n)
-  empty : rowsLent goto t ≡ 0 → Makes r goto t (zeros goto) (zeroOthers t) (built.NoRoom 0)
-  refused : {goto' : List ℕ} {u : Others} → rowsLent goto t ≢ 0 → AllFilled r (rowsLent goto t) (zeros goto) (zeroOthers t) goto' u filled.Full
-      → Makes r goto t (zeros goto) (zeroOthers t) (built.NoRoom (rowsLent goto t))
+  empty : rows_lent goto t ≡ 0 → Makes r goto t (zeros goto) (zero_others t) (built.NoRoom 0)
+  refused : {goto' : List ℕ} {u : Others} → rows_lent goto t ≢ 0 → AllFilled r (rows_lent goto t) (zeros goto) (zero_others t) goto' u filled.Full
+      → Makes r goto t (zeros goto) (zero_others t) (built.NoRoom (rows_lent goto t))

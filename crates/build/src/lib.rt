@@ -1,16 +1,16 @@
 // The builder of tables: from the bytes of a rule book to the five tables, one row of 256 entries at a time.
+#![tactic(auto)]
 
 ghost use Rattle.std.specs.Prelude.{◌≡◌, ℕ, suc, ◌+◌, ◌*◌, ◌%◌, ◌<◌, ◌≤◌, min, length, get_or, ◌&&◌, eqb};
-ghost use Rattle.sets.specs.Sets.{setOf, wordWhere};
-ghost use Rattle.sets.specs.Table.{rowWords, rulesAt};
+ghost use Rattle.sets.specs.Sets.{set_of, word_where};
+ghost use Rattle.sets.specs.Table.{row_words, rules_at};
 ghost use Rattle.std.specs.Int.Bits.{bit_or};
-ghost use Rattle.meaning.specs.Step.{goesOn, nextLive};
-ghost use Rattle.book.specs.Limits.{mostRows};
-ghost use Rattle.book.specs.Meant.{rulesIn, rulesHeld};
-ghost use Rattle.build.specs.Sets.{Within, Joins, IsWord, endsIn, endedIn};
-ghost use Rattle.build.specs.Course.{Added, Leads, Found, Rising, chainOf, chainAt, Chains, Descends, RowsUsed};
+ghost use Rattle.meaning.specs.Step.{goes_on, next_live};
+ghost use Rattle.book.specs.Limits.{most_rows};
+ghost use Rattle.book.specs.Meant.{rules_in, rules_held};
+ghost use Rattle.build.specs.Sets.{Within, Joins, IsWord, ends_in, ended_in};
+ghost use Rattle.build.specs.Course.{Added, Leads, Found, Rising, chain_of, chain_at, Chains, Descends, RowsUsed};
 ghost use Rattle.build.specs.Course.{InHand, RowOf, Place, RowFilled, Sane, RowBuilt, AllFilled, Makes, others};
-ghost use Rattle.moments.specs.Moments.{was, left};
 ghost use Rattle.lent.specs.Lent.{given, returned};
 ghost use Rattle.promised.specs.Promise.{Promise};
 ghost use Rattle.build.specs.declared.Placed.TheVariants.{Entry};
@@ -40,7 +40,7 @@ enum Filled {
 
 // Whether the byte fits the symbol and rule k is of the set (any is where nothing is held).
 fn joins(pictures: &Pictures, live: u64, held: usize, k: u32, symbol: u16, byte: u8) -> bool
-    ensures { Joins (was pictures) live held k symbol byte result }
+    ensures { Joins pictures.now live held k symbol byte result }
 {
     if held != 0 {
         if !bits::has(live, k) {
@@ -69,7 +69,7 @@ fn extended_word(
 ) -> u64
     requires { Within lengths.now rules × (64 * i < rules) }
     ensures { (s : ℕ) → IsWord s i live
-        → result ≡ wordWhere rules (goesOn (rulesIn (was symbols) (was lengths) (was pictures) rules) held s byte) i }
+        → result ≡ word_where rules (goes_on (rules_in symbols.now lengths.now pictures.now rules) held s byte) i }
 {
     let base = 64 * i;
     let many = least(64, rules - base);
@@ -98,9 +98,9 @@ fn extended(
     live: &[u64],
     byte: u8,
 ) -> Set
-    requires { Within lengths.now rules × (length live.now ≡ rowWords) }
-    ensures { (setOf result ≡ nextLive (rulesIn (was symbols) (was lengths) (was pictures) rules) held (setOf (was live)) byte)
-        × (length result ≡ rowWords) }
+    requires { Within lengths.now rules × (length live.now ≡ row_words) }
+    ensures { (set_of result ≡ next_live (rules_in symbols.now lengths.now pictures.now rules) held (set_of live.now) byte)
+        × (length result ≡ row_words) }
 {
     let mut set = words::none();
     let mut i: usize = 0;
@@ -114,7 +114,7 @@ fn extended(
 // Word i of what `ended` answers, where `set` is word i of the set.
 fn ended_word(lengths: &[u8; Book::RULES], rules: usize, held: usize, i: usize, set: u64) -> u64
     requires { Within lengths.now rules × (64 * i < rules) }
-    ensures { (s : ℕ) → IsWord s i set → result ≡ wordWhere rules (endsIn (was lengths) held s) i }
+    ensures { (s : ℕ) → IsWord s i set → result ≡ word_where rules (ends_in lengths.now held s) i }
 {
     let base = 64 * i;
     let many = least(64, rules - base);
@@ -133,8 +133,8 @@ fn ended_word(lengths: &[u8; Book::RULES], rules: usize, held: usize, i: usize, 
 
 // The rules of the set that have just `held` symbols.
 fn ended(lengths: &[u8; Book::RULES], rules: usize, held: usize, set: &[u64]) -> Set
-    requires { Within lengths.now rules × (length set.now ≡ rowWords) }
-    ensures { (setOf result ≡ endedIn (was lengths) rules held (setOf (was set))) × (length result ≡ rowWords) }
+    requires { Within lengths.now rules × (length set.now ≡ row_words) }
+    ensures { (set_of result ≡ ended_in lengths.now rules held (set_of set.now)) × (length result ≡ row_words) }
 {
     let mut some = words::none();
     let mut i: usize = 0;
@@ -147,7 +147,7 @@ fn ended(lengths: &[u8; Book::RULES], rules: usize, held: usize, set: &[u64]) ->
 
 // The remainder of a set, as one number, by 4,093: the words are its digits to the base 2 ^ 64, which leaves 3,888.
 fn remainder(set: &[u64]) -> usize
-    ensures { result ≡ setOf (was set) % 4093 }
+    ensures { result ≡ set_of set.now % 4093 }
 {
     let mut rest: u64 = 0;
     let mut left = set.len();
@@ -160,15 +160,15 @@ fn remainder(set: &[u64]) -> usize
 
 // The chain of the rows with this fall and live set: both count, so that a chain is short where many rows have one fall or one live set.
 fn chain(f: u16, l: &[u64]) -> usize
-    ensures { (result ≡ chainOf f (setOf (was l))) × (result < mostRows) }
+    ensures { (result ≡ chain_of f (set_of l.now)) × (result < most_rows) }
 {
     (f as usize + remainder(l)) % Book::ROWS
 }
 
 // Whether row i has this live set and this fall.
 fn is_key(fall: &[u16], live: &[u64], i: usize, l: &[u64], f: u16) -> bool
-    requires { (i < length fall.now) × (rowWords * suc i ≤ length live.now) × (length l.now ≡ rowWords) }
-    ensures { result ≡ (eqb (rulesAt (was live) i) (setOf (was l)) && eqb (get_or (was fall) i 0) f) }
+    requires { (i < length fall.now) × (row_words * suc i ≤ length live.now) × (length l.now ≡ row_words) }
+    ensures { result ≡ (eqb (rules_at live.now i) (set_of l.now) && eqb (get_or fall.now i 0) f) }
 {
     let start = WORDS * i;
     if !words::same(&live[start..start + WORDS], l) {
@@ -189,11 +189,11 @@ fn find_row(
     l: &[u64],
     f: u16,
 ) -> usize
-    requires fact_1 { (n ≤ length fall.now) × (n ≤ length held.now) × (rowWords * n ≤ length live.now) × (n ≤ mostRows)
-        × (length l.now ≡ rowWords) }
-    requires fact_2 { Rising held.now n h }
-    requires fact_3 { Chains first.now older.now (chainAt fall.now live.now) n }
-    ensures { Found (was held) (was live) (was fall) n h (setOf (was l)) f result }
+    requires room { (n ≤ length fall.now) × (n ≤ length held.now) × (row_words * n ≤ length live.now) × (n ≤ most_rows)
+        × (length l.now ≡ row_words) }
+    requires rising { Rising held.now n h }
+    requires chains { Chains first.now older.now (chain_at fall.now live.now) n }
+    ensures { Found held.now live.now fall.now n h (set_of l.now) f result }
 {
     let mut i = first[chain(f, l)] as usize;
     while i != 0 {
@@ -210,9 +210,9 @@ fn find_row(
 
 // The row that a byte leads to from `row`, by falls.
 fn follow(goto: &[u16], fall: &[u16], row: u16, byte: usize) -> u16
-    requires fact_1 { Descends goto.now fall.now row }
-    requires fact_2 { byte < 256 }
-    ensures { Leads (was goto) (was fall) byte row result }
+    requires descends { Descends goto.now fall.now row }
+    requires is_byte { byte < 256 }
+    ensures { Leads goto.now fall.now byte row result }
 {
     let mut r = row as usize;
     while goto[256 * r + byte] == NO_ENTRY {
@@ -224,7 +224,7 @@ fn follow(goto: &[u16], fall: &[u16], row: u16, byte: usize) -> u16
 // The complete row of `row`: for each byte the row that it leads to.
 fn via_row(goto: &[u16], fall: &[u16], row: u16) -> [u16; 256]
     requires { Descends goto.now fall.now row }
-    ensures { (c : ℕ) → c < 256 → Leads (was goto) (was fall) c row (get_or result c 0) }
+    ensures { (c : ℕ) → c < 256 → Leads goto.now fall.now c row (get_or result c 0) }
 {
     let mut via = [0u16; 256];
     let mut c = 0;
@@ -244,10 +244,10 @@ fn ends(
     out: &[u64],
     below: usize,
 ) -> Set
-    requires { Within lengths.now rules × (length set.now ≡ rowWords) × (below < mostRows)
-        × (rowWords * suc below ≤ length out.now) }
-    ensures { (setOf result ≡ bit_or (endedIn (was lengths) rules held (setOf (was set))) (rulesAt (was out) below))
-        × (length result ≡ rowWords) }
+    requires { Within lengths.now rules × (length set.now ≡ row_words) × (below < most_rows)
+        × (row_words * suc below ≤ length out.now) }
+    ensures { (set_of result ≡ bit_or (ended_in lengths.now rules held (set_of set.now)) (rules_at out.now below))
+        × (length result ≡ row_words) }
 {
     let mut all = ended(lengths, rules, held, set);
     let start = WORDS * below;
@@ -268,10 +268,10 @@ fn add_row(
     l: &[u64],
     f: u16,
 )
-    requires fact_1 { Within lengths.now rules × (length l.now ≡ rowWords) × (f < n) }
-    requires fact_2 { RowsUsed (suc n) (suc n) (others fall.old held.old live.old out.old) }
-    ensures { Added (endedIn (was lengths) rules h (setOf (was l))) n h (setOf (was l)) f
-        (others (was fall) (was held) (was live) (was out)) (others (left fall) (left held) (left live) (left out)) }
+    requires within { Within lengths.now rules × (length l.now ≡ row_words) × (f < n) }
+    requires used { RowsUsed (suc n) (suc n) (others fall.old held.old live.old out.old) }
+    ensures { Added (ended_in lengths.now rules h (set_of l.now)) n h (set_of l.now) f
+        (others fall.old held.old live.old out.old) (others fall.new held.new live.new out.new) }
 {
     let all = ends(lengths, rules, h as usize, l, out, f as usize);
     fall[n] = f;
@@ -296,14 +296,14 @@ fn row_of(
     l: &[u64],
     f: u16,
 ) -> Placed
-    requires fact_1 { Within lengths.now rules × (length l.now ≡ rowWords) }
-    requires fact_2 { RowsUsed lent n (others fall.old held.old live.old out.old) }
-    requires fact_3 { f < n }
-    requires fact_4 { Rising held.old n h }
-    requires fact_5 { Chains first.old older.old (chainAt fall.old live.old) n }
-    ensures fact_1 { RowOf (endedIn (was lengths) rules h (setOf (was l))) lent n h (setOf (was l)) f
-        (others (was fall) (was held) (was live) (was out)) (others (left fall) (left held) (left live) (left out)) result }
-    ensures fact_2 { ((e m : ℕ) → result ≡ Entry e m → Chains (left first) (left older) (chainAt (left fall) (left live)) m) }
+    requires within { Within lengths.now rules × (length l.now ≡ row_words) }
+    requires used { RowsUsed lent n (others fall.old held.old live.old out.old) }
+    requires falls_in { f < n }
+    requires rising { Rising held.old n h }
+    requires chains { Chains first.old older.old (chain_at fall.old live.old) n }
+    ensures course { RowOf (ended_in lengths.now rules h (set_of l.now)) lent n h (set_of l.now) f
+        (others fall.old held.old live.old out.old) (others fall.new held.new live.new out.new) result }
+    ensures chains { ((e m : ℕ) → result ≡ Entry e m → Chains first.new older.new (chain_at fall.new live.new) m) }
 {
     let i = find_row(fall, held, live, first, older, n, h, l, f);
     if i < n {
@@ -337,13 +337,13 @@ fn place(
     byte: u8,
     via: u16,
 ) -> Placed
-    requires fact_1 { Within lengths.now rules }
-    requires fact_2 { InHand lent n s (others fall.old held.old live.old out.old) }
-    requires fact_3 { via < n }
-    requires fact_4 { Chains first.old older.old (chainAt fall.old live.old) n }
-    ensures fact_1 { Place (rulesIn (was symbols) (was lengths) (was pictures) rules) lent s byte via n
-        (others (was fall) (was held) (was live) (was out)) (others (left fall) (left held) (left live) (left out)) result }
-    ensures fact_2 { ((e m : ℕ) → result ≡ Entry e m → Chains (left first) (left older) (chainAt (left fall) (left live)) m) }
+    requires within { Within lengths.now rules }
+    requires in_hand { InHand lent n s (others fall.old held.old live.old out.old) }
+    requires via_in { via < n }
+    requires chains { Chains first.old older.old (chain_at fall.old live.old) n }
+    ensures course { Place (rules_in symbols.now lengths.now pictures.now rules) lent s byte via n
+        (others fall.old held.old live.old out.old) (others fall.new held.new live.new out.new) result }
+    ensures chains { ((e m : ℕ) → result ≡ Entry e m → Chains first.new older.new (chain_at fall.new live.new) m) }
 {
     let h = held[s];
     let start = WORDS * s;
@@ -397,14 +397,14 @@ fn fill_row(
     s: usize,
     via: [u16; 256],
 ) -> Filled
-    requires fact_1 { Within lengths.now rules }
-    requires fact_2 { InHand lent n s (others fall.old held.old live.old out.old) }
-    requires fact_3 { length row.old ≡ 256 }
-    requires fact_4 { ((c : ℕ) → c < 256 → get_or via c 0 < n) }
-    requires fact_5 { Chains first.old older.old (chainAt fall.old live.old) n }
-    ensures fact_1 { RowFilled (rulesIn (was symbols) (was lengths) (was pictures) rules) lent s via (was row) n
-        (others (was fall) (was held) (was live) (was out)) (left row) (others (left fall) (left held) (left live) (left out)) result }
-    ensures fact_2 { ((m : ℕ) → result ≡ Whole m → Chains (left first) (left older) (chainAt (left fall) (left live)) m) }
+    requires within { Within lengths.now rules }
+    requires in_hand { InHand lent n s (others fall.old held.old live.old out.old) }
+    requires row_long { length row.old ≡ 256 }
+    requires via_in { ((c : ℕ) → c < 256 → get_or via c 0 < n) }
+    requires chains { Chains first.old older.old (chain_at fall.old live.old) n }
+    ensures course { RowFilled (rules_in symbols.now lengths.now pictures.now rules) lent s via row.old n
+        (others fall.old held.old live.old out.old) row.new (others fall.new held.new live.new out.new) result }
+    ensures chains { ((m : ℕ) → result ≡ Whole m → Chains first.new older.new (chain_at fall.new live.new) m) }
 {
     let mut rows = n;
     let mut c: usize = 0;
@@ -444,14 +444,14 @@ fn build_row(
     n: usize,
     s: usize,
 ) -> Filled
-    requires fact_1 { Within lengths.now rules }
-    requires fact_2 { Sane lent n goto.old (others fall.old held.old live.old out.old) }
-    requires fact_3 { s < n }
-    requires fact_4 { Rising held.old n (get_or held.old s 0 + 1) }
-    requires fact_5 { Chains first.old older.old (chainAt fall.old live.old) n }
-    ensures fact_1 { RowBuilt (rulesIn (was symbols) (was lengths) (was pictures) rules) lent n s (was goto)
-        (others (was fall) (was held) (was live) (was out)) (left goto) (others (left fall) (left held) (left live) (left out)) result }
-    ensures fact_2 { ((m : ℕ) → result ≡ Whole m → Chains (left first) (left older) (chainAt (left fall) (left live)) m) }
+    requires within { Within lengths.now rules }
+    requires sane { Sane lent n goto.old (others fall.old held.old live.old out.old) }
+    requires row_in { s < n }
+    requires rising { Rising held.old n (get_or held.old s 0 + 1) }
+    requires chains { Chains first.old older.old (chain_at fall.old live.old) n }
+    ensures course { RowBuilt (rules_in symbols.now lengths.now pictures.now rules) lent n s goto.old
+        (others fall.old held.old live.old out.old) goto.new (others fall.new held.new live.new out.new) result }
+    ensures chains { ((m : ℕ) → result ≡ Whole m → Chains first.new older.new (chain_at fall.new live.new) m) }
 {
     let below = fall[s];
     let via = via_row(goto, fall, below);
@@ -489,10 +489,10 @@ fn fill_all(
     out: &mut [u64],
     lent: usize,
 ) -> Filled
-    requires fact_1 { Within lengths.now rules }
-    requires fact_2 { Sane lent 1 goto.old (others fall.old held.old live.old out.old) }
-    ensures { AllFilled (rulesIn (was symbols) (was lengths) (was pictures) rules) lent (was goto)
-        (others (was fall) (was held) (was live) (was out)) (left goto) (others (left fall) (left held) (left live) (left out)) result }
+    requires within { Within lengths.now rules }
+    requires sane { Sane lent 1 goto.old (others fall.old held.old live.old out.old) }
+    ensures { AllFilled (rules_in symbols.now lengths.now pictures.now rules) lent goto.old
+        (others fall.old held.old live.old out.old) goto.new (others fall.new held.new live.new out.new) result }
 {
     let mut first = [0u16; Book::ROWS];
     let mut older = [0u16; Book::ROWS];
@@ -526,8 +526,8 @@ fn make(
     out: &mut [u64],
 ) -> Built
     requires { Within book.lengths book.rules }
-    ensures { Makes (rulesHeld book) (was goto) (others (was fall) (was held) (was live) (was out)) (left goto)
-        (others (left fall) (left held) (left live) (left out)) result }
+    ensures { Makes (rules_held book) goto.old (others fall.old held.old live.old out.old) goto.new
+        (others fall.new held.new live.new out.new) result }
 {
     let rows = lent::rows_lent(goto.len(), fall.len(), held.len(), live.len(), out.len());
     lent::zero_all(goto, fall, held, live, out);
@@ -558,7 +558,7 @@ pub fn build(
     live: &mut [u64],
     out: &mut [u64],
 ) -> Built
-    ensures { Promise (was bytes) (given goto fall held live out) (returned goto fall held live out) result }
+    ensures { Promise bytes.now (given goto.old fall.old held.old live.old out.old) (returned goto.new fall.new held.new live.new out.new) result }
 {
     let read = reader::read(bytes);
     let answer = read.answer;

@@ -1,6 +1,8 @@
 // Builds books and writes, a line each: the label, the number and the value of the answer, and how many entries of goto, fall, held, live
 // and out are not 0 then; of an accepted book also its rows of held, fall, live and out, of the last two the four words of each row. Before each
 // build every entry lent is 1. Then it widens old tables, and writes the number, the value and all words.
+#![tactic(auto)]
+
 ghost use Rattle.std.specs.Prelude.{◌≤◌, length};
 
 fn main() {

@@ -1,6 +1,8 @@
 // Books by the thousand, drawn from keys, sound and spoiled and near the limits: what the proved reader and builder answer is compared with a second reader
 // and second rows, which are written from the paper's words alone and share nothing with them. It catches a wrong definition, which no proof does.
 // Walks and tallies are compared in `walk_cases`.
+#![tactic(auto)]
+
 mod compare;
 mod draw;
 mod fitting;

@@ -12,9 +12,9 @@ use Rattle.format.specs.declared.Refusal.{Refusal}
 use Rattle.format.specs.declared.Answer.{Answer}
 use Rattle.format.specs.declared.Answer.TheVariants.{Accepted, Refused}
 use Rattle.book.specs.Content.{Content}
-use Rattle.format.specs.Format.{size_at, headAt, Outcome, goes, stops, outcome, pictureField, ruleField, part, field_of, field_at, refused, follow, ended, fields}
-use Rattle.book.proofs.Cases.{by-lt, by-eq}
-use Rattle.format.proofs.Turns.{head-short, head-cut, head-picture, head-rule, head-unknown}
+use Rattle.format.specs.Format.{size_at, head_at, Outcome, goes, stops, outcome, picture_field, rule_field, part, field_of, field_at, refused, follow, ended, fields}
+use Rattle.book.proofs.Cases.{by_lt, by_eq}
+use Rattle.format.proofs.Turns.{head_short, head_cut, head_picture, head_rule, head_unknown}
 
 -- ---- where a field ends
 
@@ -33,20 +33,20 @@ pub data HeadIs (s : List ℕ) (at : ℕ) : Head → Type 0 where
   picture : at + 3 + size_at s at ≤ length s → HeadIs s at (Picture (at + 3) (at + 3 + size_at s at))
   rule : at + 3 + size_at s at ≤ length s → get_or s at 0 ≡ 0x52 → HeadIs s at (Rule (at + 3) (at + 3 + size_at s at))
 
-pub head-is : (s : List ℕ) (at : ℕ) → HeadIs s at (headAt s at)
-head-is s at =
-    by-lt (length s) (at + 3)
-    (λ h. subst (HeadIs s at) (head-short s at h) short)
+pub head_is : (s : List ℕ) (at : ℕ) → HeadIs s at (head_at s at)
+head_is s at =
+    by_lt (length s) (at + 3)
+    (λ h. subst (HeadIs s at) (head_short s at h) short)
     (λ h.
-    by-lt (length s) (at + 3 + size_at s at)
-    (λ k. subst (HeadIs s at) (head-cut s at h k) short)
+    by_lt (length s) (at + 3 + size_at s at)
+    (λ k. subst (HeadIs s at) (head_cut s at h k) short)
     (λ k.
-    by-eq (get_or s at 0) 0x50
-    (λ x. subst (HeadIs s at) (head-picture s at h k x) (picture k))
+    by_eq (get_or s at 0) 0x50
+    (λ x. subst (HeadIs s at) (head_picture s at h k x) (picture k))
     (λ x.
-    by-eq (get_or s at 0) 0x52
-    (λ y. subst (HeadIs s at) (head-rule s at h k x y) (rule k y))
-    (λ y. subst (HeadIs s at) (head-unknown s at h k x y) unknown))))
+    by_eq (get_or s at 0) 0x52
+    (λ y. subst (HeadIs s at) (head_rule s at h k x y) (rule k y))
+    (λ y. subst (HeadIs s at) (head_unknown s at h k x y) unknown))))
 
 abbrev pub Within : ℕ → ℕ → Head → Type 0
 Within n at Short = Unit
@@ -54,8 +54,8 @@ Within n at Unknown = Unit
 Within n at (Picture b e) = (b ≡ at + 3) × (b ≤ e) × (e ≤ n)
 Within n at (Rule b e) = (b ≡ at + 3) × (b ≤ e) × (e ≤ n)
 
-pub within : (s : List ℕ) (at : ℕ) → Within (length s) at (headAt s at)
-within s at = go (head-is s at)
+pub within : (s : List ℕ) (at : ℕ) → Within (length s) at (head_at s at)
+within s at = go (head_is s at)
   where
     go : {h : Head} → HeadIs s at h → Within (length s) at h
     go short = tt
@@ -64,13 +64,13 @@ within s at = go (head-is s at)
     go (rule k t) = (refl, omega arith, k)
 
 -- what was found to be the head of the field
-module _ (s : List ℕ) (at : ℕ) (x : Head) {h : Head} (p : h ≡ headAt s at) (q : h ≡ x) where
-  pub head-within : Within (length s) at x
-  head-within = subst (Within (length s) at) (sym p ∙ q) (within s at)
+module _ (s : List ℕ) (at : ℕ) (x : Head) {h : Head} (p : h ≡ head_at s at) (q : h ≡ x) where
+  pub head_within : Within (length s) at x
+  head_within = subst (Within (length s) at) (sym p ∙ q) (within s at)
 
-  pub field-headed : (a : Content) → field_at s at a ≡ field_of s at a x
+  pub field_headed : (a : Content) → field_at s at a ≡ field_of s at a x
   unfolding field_at
-  field-headed a = ap (field_of s at a) (sym p ∙ q)
+  field_headed a = ap (field_of s at a) (sym p ∙ q)
 
 -- ---- the loop over the fields
 
@@ -85,7 +85,7 @@ ahead-judged n at Accepted e a h = h
 ahead-judged n at (Refused r) e a h = tt
 
 ahead_of : (s : List ℕ) (at : ℕ) (a : Content) (h : Head) → Within (length s) at h → Ahead (length s) at (field_of s at a h)
-unfolding field_of pictureField ruleField
+unfolding field_of picture_field rule_field
 ahead_of s at a Short w = tt
 ahead_of s at a Unknown w = tt
 ahead_of s at a (Picture b e) w = ahead-judged (length s) at _ e _ (omega arith)
@@ -93,7 +93,7 @@ ahead_of s at a (Rule b e) w = ahead-judged (length s) at _ e _ (omega arith)
 
 pub ahead : (s : List ℕ) (at : ℕ) (a : Content) → Ahead (length s) at (field_at s at a)
 unfolding field_at
-ahead s at a = ahead_of s at a (headAt s at) (within s at)
+ahead s at a = ahead_of s at a (head_at s at) (within s at)
 
 module _ (n : ℕ) (s : List ℕ) (at : ℕ) (a : Content) where
   pub fields-goes : (e : ℕ) (b : Content) → at < length s → field_at s at a ≡ goes e b → fields (suc n) s at a ≡ fields n s e b

@@ -11,47 +11,47 @@ use Rattle.format.specs.declared.Refusal.{Refusal}
 use Rattle.format.specs.declared.Refusal.TheVariants.{PictureBody, PictureMany, RuleBody, RuleLong, RuleMany}
 use Rattle.format.specs.declared.Answer.{Answer}
 use Rattle.format.specs.declared.Answer.TheVariants.{Accepted, Refused}
-use Rattle.book.specs.Limits.{mostPictures, mostRules, mostSymbols}
+use Rattle.book.specs.Limits.{most_pictures, most_rules, most_symbols}
 use Rattle.format.specs.Answers.{number}
-use Rattle.format.specs.Format.{ascendingBody, judgePicture, judgeSymbols, judgeRule}
-use Rattle.book.proofs.Cases.{by-test, by-lt, by-eq}
+use Rattle.format.specs.Format.{ascending_body, judge_picture, judge_symbols, judge_rule}
+use Rattle.book.proofs.Cases.{by_test, by_lt, by_eq}
 use Rattle.format.proofs.Answers.{never, number_same}
 
 -- ---- a picture
 
 module _ (p at : ℕ) (m : List ℕ) where
-  pub picture-many : mostPictures ≤ p → Refused (PictureMany at) ≡ judgePicture p at m
-  unfolding judgePicture
-  picture-many h = rw (le-leb mostPictures p h)
+  pub picture-many : most_pictures ≤ p → Refused (PictureMany at) ≡ judge_picture p at m
+  unfolding judge_picture
+  picture-many h = rw (le-leb most_pictures p h)
 
-  module _ (h : p < mostPictures) where
-    pub picture-body : ascendingBody m ≡ false → Refused (PictureBody at) ≡ judgePicture p at m
-    unfolding judgePicture
-    picture-body x = rw (lt-leb mostPictures p h, x)
+  module _ (h : p < most_pictures) where
+    pub picture-body : ascending_body m ≡ false → Refused (PictureBody at) ≡ judge_picture p at m
+    unfolding judge_picture
+    picture-body x = rw (lt-leb most_pictures p h, x)
 
-    pub picture-fine : ascendingBody m ≡ true → Accepted ≡ judgePicture p at m
-    unfolding judgePicture
-    picture-fine x = rw (lt-leb mostPictures p h, x)
+    pub picture_fine : ascending_body m ≡ true → Accepted ≡ judge_picture p at m
+    unfolding judge_picture
+    picture_fine x = rw (lt-leb most_pictures p h, x)
 
 -- an accepted picture is one of few and ascends
-pub picture-sound : (p at : ℕ) (m : List ℕ) → judgePicture p at m ≡ Accepted → (p < mostPictures) × (ascendingBody m ≡ true)
-unfolding judgePicture
+pub picture-sound : (p at : ℕ) (m : List ℕ) → judge_picture p at m ≡ Accepted → (p < most_pictures) × (ascending_body m ≡ true)
+unfolding judge_picture
 picture-sound p at m e =
-    by-lt p mostPictures
+    by_lt p most_pictures
     (λ h.
-    by-test (ascendingBody m)
+    by_test (ascending_body m)
     (λ x. (h, x))
-    (λ x. never (rw (lt-leb mostPictures p h, x) at e)))
-    (λ h. never (rw (le-leb mostPictures p h) at e))
+    (λ x. never (rw (lt-leb most_pictures p h, x) at e)))
+    (λ h. never (rw (le-leb most_pictures p h) at e))
 
 -- a picture is refused with 5 or 3
-pub picture-refused : (p at : ℕ) (m : List ℕ) {r : Refusal} → judgePicture p at m ≡ Refused r → number r ≤ 5
-unfolding judgePicture
+pub picture-refused : (p at : ℕ) (m : List ℕ) {r : Refusal} → judge_picture p at m ≡ Refused r → number r ≤ 5
+unfolding judge_picture
 picture-refused p at m e =
-    by-test (leb mostPictures p)
+    by_test (leb most_pictures p)
     (λ x. few (PictureMany at) (rw x at e) (omega arith))
     (λ x.
-    by-test (ascendingBody m)
+    by_test (ascending_body m)
     (λ y. never (sym (rw (x, y) at e)))
     (λ y. few (PictureBody at) (rw (x, y) at e) (omega arith)))
   where
@@ -61,45 +61,45 @@ picture-refused p at m e =
 -- ---- a rule
 
 module _ (n p at : ℕ) (l : List ℕ) where
-  pub rule-many : mostRules ≤ n → Refused (RuleMany at) ≡ judgeRule n p at l
-  unfolding judgeRule
-  rule-many h = rw (le-leb mostRules n h)
+  pub rule-many : most_rules ≤ n → Refused (RuleMany at) ≡ judge_rule n p at l
+  unfolding judge_rule
+  rule-many h = rw (le-leb most_rules n h)
 
-  module _ (h : n < mostRules) where
-    pub rule-long : 2 * mostSymbols < length l → Refused (RuleLong at) ≡ judgeRule n p at l
-    unfolding judgeRule
-    rule-long k = rw (lt-leb mostRules n h, lt-ltb (2 * mostSymbols) (length l) k)
+  module _ (h : n < most_rules) where
+    pub rule-long : 2 * most_symbols < length l → Refused (RuleLong at) ≡ judge_rule n p at l
+    unfolding judge_rule
+    rule-long k = rw (lt-leb most_rules n h, lt-ltb (2 * most_symbols) (length l) k)
 
-    module _ (k : length l ≤ 2 * mostSymbols) where
-      pub rule-empty : length l ≡ 0 → Refused (RuleBody at) ≡ judgeRule n p at l
-      unfolding judgeRule
-      rule-empty x = rw (lt-leb mostRules n h, le-ltb (2 * mostSymbols) (length l) k, le-ltb 0 (length l) (omega arith))
+    module _ (k : length l ≤ 2 * most_symbols) where
+      pub rule-empty : length l ≡ 0 → Refused (RuleBody at) ≡ judge_rule n p at l
+      unfolding judge_rule
+      rule-empty x = rw (lt-leb most_rules n h, le-ltb (2 * most_symbols) (length l) k, le-ltb 0 (length l) (omega arith))
 
-      pub rule-odd : (length l ≡ 0 → ⊥) → length l % 2 ≡ 1 → Refused (RuleBody at) ≡ judgeRule n p at l
-      unfolding judgeRule
-      rule-odd x y = rw (lt-leb mostRules n h, le-ltb (2 * mostSymbols) (length l) k, lt-ltb 0 (length l) (omega arith), ne_eqb (length l % 2) 0 (omega arith))
+      pub rule_odd : (length l ≡ 0 → ⊥) → length l % 2 ≡ 1 → Refused (RuleBody at) ≡ judge_rule n p at l
+      unfolding judge_rule
+      rule_odd x y = rw (lt-leb most_rules n h, le-ltb (2 * most_symbols) (length l) k, lt-ltb 0 (length l) (omega arith), ne_eqb (length l % 2) 0 (omega arith))
 
-      pub rule-judged : (length l ≡ 0 → ⊥) → (length l % 2 ≡ 1 → ⊥) → judgeSymbols p (at + 3) l ≡ judgeRule n p at l
-      unfolding judgeRule
-      rule-judged x y = rw (lt-leb mostRules n h, le-ltb (2 * mostSymbols) (length l) k, lt-ltb 0 (length l) (omega arith), eq-eqb (length l % 2) 0 (omega arith))
+      pub rule-judged : (length l ≡ 0 → ⊥) → (length l % 2 ≡ 1 → ⊥) → judge_symbols p (at + 3) l ≡ judge_rule n p at l
+      unfolding judge_rule
+      rule-judged x y = rw (lt-leb most_rules n h, le-ltb (2 * most_symbols) (length l) k, lt-ltb 0 (length l) (omega arith), eq-eqb (length l % 2) 0 (omega arith))
 
   -- an answer that is none of 8, 7 and 6 is that of the symbols
-  pub rule-left : {t : Answer} → t ≡ judgeRule n p at l → (t ≡ Refused (RuleMany at) → ⊥) → (t ≡ Refused (RuleLong at) → ⊥) → (t ≡ Refused (RuleBody at) → ⊥)
-      → (n < mostRules) × (length l ≤ 2 * mostSymbols) × (0 < length l) × (length l % 2 ≡ 0) × (judgeSymbols p (at + 3) l ≡ t)
-  rule-left u many long body =
-      by-lt n mostRules
+  pub rule_left : {t : Answer} → t ≡ judge_rule n p at l → (t ≡ Refused (RuleMany at) → ⊥) → (t ≡ Refused (RuleLong at) → ⊥) → (t ≡ Refused (RuleBody at) → ⊥)
+      → (n < most_rules) × (length l ≤ 2 * most_symbols) × (0 < length l) × (length l % 2 ≡ 0) × (judge_symbols p (at + 3) l ≡ t)
+  rule_left u many long body =
+      by_lt n most_rules
       (λ h.
-      by-lt (2 * mostSymbols) (length l)
+      by_lt (2 * most_symbols) (length l)
       (λ k. absurd (long (u ∙ sym (rule-long h k))))
       (λ k.
-      by-eq (length l) 0
+      by_eq (length l) 0
       (λ x. absurd (body (u ∙ sym (rule-empty h k x))))
       (λ x.
-      by-eq (length l % 2) 1
-      (λ y. absurd (body (u ∙ sym (rule-odd h k x y))))
+      by_eq (length l % 2) 1
+      (λ y. absurd (body (u ∙ sym (rule_odd h k x y))))
       (λ y. (h, k, omega arith, omega arith, rule-judged h k x y ∙ sym u)))))
       (λ h. absurd (many (u ∙ sym (rule-many h))))
 
   -- an accepted rule has room and whole symbols, each accepted
-  pub rule-sound : {t : Answer} → t ≡ judgeRule n p at l → t ≡ Accepted → (n < mostRules) × (length l ≤ 2 * mostSymbols) × (0 < length l) × (length l % 2 ≡ 0) × (judgeSymbols p (at + 3) l ≡ Accepted)
-  rule-sound u v = rule-left (sym v ∙ u) (λ z. never (sym z)) (λ z. never (sym z)) (λ z. never (sym z))
+  pub rule-sound : {t : Answer} → t ≡ judge_rule n p at l → t ≡ Accepted → (n < most_rules) × (length l ≤ 2 * most_symbols) × (0 < length l) × (length l % 2 ≡ 0) × (judge_symbols p (at + 3) l ≡ Accepted)
+  rule-sound u v = rule_left (sym v ∙ u) (λ z. never (sym z)) (λ z. never (sym z)) (λ z. never (sym z))

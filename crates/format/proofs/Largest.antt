@@ -7,65 +7,65 @@ use native.Mathlib.Omega.{arith}
 use borrow.Author.Tests.{ne_eqb}
 use lib.ListN.{length, length-append}
 use Rattle.format.specs.declared.Answer.TheVariants.{Accepted}
-use Rattle.book.specs.Limits.{mostPictures, mostRules, mostSymbols}
-use Rattle.book.specs.Content.{Content, nothing, withPicture, table}
-use Rattle.format.specs.Format.{rises, ascendingBody, judgeSymbol, first_of, judgeSymbols, judgeRule, means, ended, meaningOf}
-use Rattle.format.specs.Lawful.{mostBook}
+use Rattle.book.specs.Limits.{most_pictures, most_rules, most_symbols}
+use Rattle.book.specs.Content.{Content, nothing, with_picture, table}
+use Rattle.format.specs.Format.{rises, ascending_body, judge_symbol, first_of, judge_symbols, judge_rule, means, ended, meaning_of}
+use Rattle.format.specs.Lawful.{most_book}
 use Rattle.format.specs.Which.{ReadUpTo, start}
-use Rattle.format.specs.Largest.{repeated, all_bytes, longRule, largestBook}
-use Rattle.book.proofs.Tables.{length-table, length-snoc}
-use Rattle.format.proofs.Judged.{picture-fine, rule-judged}
-use Rattle.format.proofs.Rests.{rest-before, rest-ends}
-use Rattle.format.proofs.Written.{before-end, picture-read, length-repeated, many, Stands, rules-stand}
+use Rattle.format.specs.Largest.{repeated, all_bytes, long_rule, largest_book}
+use Rattle.book.proofs.Tables.{length_table, length-snoc}
+use Rattle.format.proofs.Judged.{picture_fine, rule-judged}
+use Rattle.format.proofs.Rests.{rest_before, rest-ends}
+use Rattle.format.proofs.Written.{before_end, picture-read, length-repeated, many, Stands, rules_stand}
 
 -- ---- a picture and a rule
 
-all-ascend : ascendingBody (table 256 (λ c. c)) ≡ true
-unfolding table ascendingBody rises
-all-ascend = refl
+all_ascend : ascending_body (table 256 (λ c. c)) ≡ true
+unfolding table ascending_body rises
+all_ascend = refl
 
-symbols-sound : (k i : ℕ) → judgeSymbols mostPictures i (repeated k (1 ∷ 15 ∷ [])) ≡ Accepted
-unfolding repeated judgeSymbols judgeSymbol first_of
-symbols-sound zero i = refl
-symbols-sound (suc k) i = symbols-sound k (i + 2)
+symbols_sound : (k i : ℕ) → judge_symbols most_pictures i (repeated k (1 ∷ 15 ∷ [])) ≡ Accepted
+unfolding repeated judge_symbols judge_symbol first_of
+symbols_sound zero i = refl
+symbols_sound (suc k) i = symbols_sound k (i + 2)
 
-long-sound : (n at : ℕ) → n < mostRules → judgeRule n mostPictures at (repeated mostSymbols (1 ∷ 15 ∷ [])) ≡ Accepted
+long-sound : (n at : ℕ) → n < most_rules → judge_rule n most_pictures at (repeated most_symbols (1 ∷ 15 ∷ [])) ≡ Accepted
 long-sound n at h =
-    let body = repeated mostSymbols (1 ∷ 15 ∷ []) in
-    let l : length body ≡ mostSymbols * 2 = length-repeated mostSymbols (1 ∷ 15 ∷ []) in
-    sym (rule-judged n mostPictures at body h (omega arith) (λ z. omega arith) (λ z. omega arith)) ∙ symbols-sound mostSymbols (at + 3)
+    let body = repeated most_symbols (1 ∷ 15 ∷ []) in
+    let l : length body ≡ most_symbols * 2 = length-repeated most_symbols (1 ∷ 15 ∷ []) in
+    sym (rule-judged n most_pictures at body h (omega arith) (λ z. omega arith) (λ z. omega arith)) ∙ symbols_sound most_symbols (at + 3)
 
 -- ---- all of them
 
-picture-more : {s : List ℕ} (x y : List ℕ) (i : ℕ) → s ≡ x ++ (all_bytes ++ y) → i < mostPictures → Stands s (length x) i 0 → Stands s (length x + length all_bytes) (suc i) 0
+picture-more : {s : List ℕ} (x y : List ℕ) (i : ℕ) → s ≡ x ++ (all_bytes ++ y) → i < most_pictures → Stands s (length x) i 0 → Stands s (length x + length all_bytes) (suc i) 0
 picture-more x y i q h r =
     let a = r.content in
     let m = table 256 (λ c. c) in
-    let l : length m ≡ 256 = length-table 256 (λ c. c) in
+    let l : length m ≡ 256 = length_table 256 (λ c. c) in
     record {
-      content = withPicture a m;
-      before = before-end x y 0x50 1 0 m q l r.before (picture-read x y 0x50 1 0 m q l a refl (sym (picture-fine (length a.pictures) (length x) m (rw r.pictures h) all-ascend)));
+      content = with_picture a m;
+      before = before_end x y 0x50 1 0 m q l r.before (picture-read x y 0x50 1 0 m q l a refl (sym (picture_fine (length a.pictures) (length x) m (rw r.pictures h) all_ascend)));
       pictures = length-snoc a.pictures m ∙ omega (arith, r.pictures);
       rules = r.rules;
     }
 
-all-stand : Stands largestBook (length largestBook) mostPictures mostRules
-all-stand =
-    let ps = repeated mostPictures all_bytes in
-    let rs = repeated mostRules longRule in
-    let first = many all_bytes mostPictures (λ at i. Stands largestBook at i 0) picture-more mostPictures [] rs 0 refl (omega arith) (record { content = nothing; before = start; pictures = refl; rules = refl }) in
-    rules-stand mostPictures 0 128 (repeated mostSymbols (1 ∷ 15 ∷ [])) (length-repeated mostSymbols (1 ∷ 15 ∷ [])) long-sound ps [] (ap (λ (z : List ℕ). ps ++ z) (sym (append-nil rs))) first
+all_stand : Stands largest_book (length largest_book) most_pictures most_rules
+all_stand =
+    let ps = repeated most_pictures all_bytes in
+    let rs = repeated most_rules long_rule in
+    let first = many all_bytes most_pictures (λ at i. Stands largest_book at i 0) picture-more most_pictures [] rs 0 refl (omega arith) (record { content = nothing; before = start; pictures = refl; rules = refl }) in
+    rules_stand most_pictures 0 128 (repeated most_symbols (1 ∷ 15 ∷ [])) (length-repeated most_symbols (1 ∷ 15 ∷ [])) long-sound ps [] (ap (λ (z : List ℕ). ps ++ z) (sym (append-nil rs))) first
 
-accepted : (a : Content) → ReadUpTo largestBook (length largestBook) a → length a.rules ≡ mostRules → meaningOf largestBook ≡ means a
+accepted : (a : Content) → ReadUpTo largest_book (length largest_book) a → length a.rules ≡ most_rules → meaning_of largest_book ≡ means a
 unfolding ended
-accepted a p k = rest-ends largestBook (length largestBook) a (rest-before p) (omega arith) ∙ rw (ne_eqb (length a.rules) 0 (λ z. omega arith))
+accepted a p k = rest-ends largest_book (length largest_book) a (rest_before p) (omega arith) ∙ rw (ne_eqb (length a.rules) 0 (λ z. omega arith))
 
-pub largest-means : (a : Content) × (meaningOf largestBook ≡ means a)
+pub largest-means : (a : Content) × (meaning_of largest_book ≡ means a)
 largest-means =
-    let r = all-stand in
+    let r = all_stand in
     (r.content, accepted r.content r.before r.rules)
 
-pub largest-long : length largestBook ≡ mostBook
+pub largest-long : length largest_book ≡ most_book
 largest-long =
-    length-append (repeated mostPictures all_bytes) (repeated mostRules longRule)
-    ∙ omega (arith, length-repeated mostPictures all_bytes, length-repeated mostRules longRule, length-table 256 (λ c. c), length-repeated mostSymbols (1 ∷ 15 ∷ []))
+    length-append (repeated most_pictures all_bytes) (repeated most_rules long_rule)
+    ∙ omega (arith, length-repeated most_pictures all_bytes, length-repeated most_rules long_rule, length_table 256 (λ c. c), length-repeated most_symbols (1 ∷ 15 ∷ []))

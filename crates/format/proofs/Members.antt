@@ -8,43 +8,43 @@ use borrow.Author.Tests.{eqb-true, le-ltb, lt-ltb}
 use lib.ListN.{length, get_or}
 use lib.Dec.{eqb, ltb}
 use Rattle.book.specs.Content.{member}
-use Rattle.format.specs.Format.{rises, ascendingBody}
+use Rattle.format.specs.Format.{rises, ascending_body}
 use Rattle.rows.specs.Rows.{ByteText}
-use Rattle.book.proofs.Cases.{by-test, by-lt, clash}
+use Rattle.book.proofs.Cases.{by_test, by_lt, clash}
 
 -- a member is a byte
-pub member-byte : (m : List ℕ) → ByteText m → (c : ℕ) → member c m ≡ true → c < 256
+pub member_byte : (m : List ℕ) → ByteText m → (c : ℕ) → member c m ≡ true → c < 256
 unfolding member
-member-byte [] h c k = clash k refl
-member-byte (x ∷ m) h c k =
-    by-test (eqb c x)
+member_byte [] h c k = clash k refl
+member_byte (x ∷ m) h c k =
+    by_test (eqb c x)
     (λ e. rw (eqb-true c x e) (h 0))
-    (λ e. member-byte m (λ i. h (suc i)) c (rw e at k))
+    (λ e. member_byte m (λ i. h (suc i)) c (rw e at k))
 
 -- each byte of an ascending body is below the next
-pub rises-at : (m : List ℕ) → rises m ≡ true → (i : ℕ) → suc i < length m → get_or m i 0 < get_or m (suc i) 0
+pub rises_at : (m : List ℕ) → rises m ≡ true → (i : ℕ) → suc i < length m → get_or m i 0 < get_or m (suc i) 0
 unfolding rises
-rises-at [] e i h = absurd (omega arith)
-rises-at (c ∷ []) e i h = absurd (omega arith)
-rises-at (c ∷ d ∷ m) e zero h = by-lt c d (λ l. l) (λ l. clash e (rw (le-ltb c d l)))
-rises-at (c ∷ d ∷ m) e (suc i) h =
-    by-test (ltb c d)
-    (λ t. rises-at (d ∷ m) (rw t at e) i (omega arith))
+rises_at [] e i h = absurd (omega arith)
+rises_at (c ∷ []) e i h = absurd (omega arith)
+rises_at (c ∷ d ∷ m) e zero h = by_lt c d (λ l. l) (λ l. clash e (rw (le-ltb c d l)))
+rises_at (c ∷ d ∷ m) e (suc i) h =
+    by_test (ltb c d)
+    (λ t. rises_at (d ∷ m) (rw t at e) i (omega arith))
     (λ t. clash e (rw t))
 
 -- an accepted body has a byte
-pub ascending-at : (m : List ℕ) → ascendingBody m ≡ true → (0 < length m) × (rises m ≡ true)
-unfolding ascendingBody
-ascending-at m e =
-    by-lt 0 (length m)
+pub ascending_at : (m : List ℕ) → ascending_body m ≡ true → (0 < length m) × (rises m ≡ true)
+unfolding ascending_body
+ascending_at m e =
+    by_lt 0 (length m)
     (λ h. (h, rw (lt-ltb 0 (length m) h) at e))
     (λ h. clash e (rw (le-ltb 0 (length m) h)))
 
 -- the byte at i is no less than i
-rises-from : (m : List ℕ) → rises m ≡ true → (i : ℕ) → i < length m → i ≤ get_or m i 0
-rises-from m e zero h = omega arith
-rises-from m e (suc i) h = omega (arith, rises-from m e i (omega arith), rises-at m e i h)
+rises_from : (m : List ℕ) → rises m ≡ true → (i : ℕ) → i < length m → i ≤ get_or m i 0
+rises_from m e zero h = omega arith
+rises_from m e (suc i) h = omega (arith, rises_from m e i (omega arith), rises_at m e i h)
 
 -- so there are at most 256 of them
 pub few-rising : (m : List ℕ) → ByteText m → rises m ≡ true → length m ≤ 256
-few-rising m small e = by-lt 256 (length m) (λ h. absurd (omega (arith, rises-from m e 256 h, small 256))) (λ h. h)
+few-rising m small e = by_lt 256 (length m) (λ h. absurd (omega (arith, rises_from m e 256 h, small 256))) (λ h. h)

@@ -9,29 +9,29 @@ use lib.Seq.{get_or-append_seam, get_or-append-add, take-append_seam, drop-appen
 use Rattle.format.specs.declared.Head.TheVariants.{Picture, Rule}
 use Rattle.format.specs.declared.Answer.{Answer}
 use Rattle.format.specs.declared.Answer.TheVariants.{Accepted}
-use Rattle.book.specs.Limits.{mostRules}
-use Rattle.book.specs.Content.{Content, withPicture, withRule}
-use Rattle.book.specs.Grown.{symbolsOf}
-use Rattle.format.specs.Format.{size_at, judgePicture, judgeRule, goes, outcome, pictureField, ruleField, part, field_of, field_at}
+use Rattle.book.specs.Limits.{most_rules}
+use Rattle.book.specs.Content.{Content, with_picture, with_rule}
+use Rattle.book.specs.Grown.{symbols_of}
+use Rattle.format.specs.Format.{size_at, judge_picture, judge_rule, goes, outcome, picture_field, rule_field, part, field_of, field_at}
 use Rattle.format.specs.Largest.{repeated}
 use Rattle.format.specs.Which.{ReadUpTo, next}
 use Rattle.book.proofs.Tables.{length-snoc}
-use Rattle.format.proofs.Turns.{head-picture, head-rule}
-use Rattle.format.proofs.Fields.{field-headed}
+use Rattle.format.proofs.Turns.{head_picture, head_rule}
+use Rattle.format.proofs.Fields.{field_headed}
 
 -- a tag, the length of the body in two bytes, and the body, after x and before y
 module _ {s : List ℕ} (x y : List ℕ) (tag high low : ℕ) (body : List ℕ) (q : s ≡ x ++ (tag ∷ high ∷ low ∷ body ++ y)) (l : length body ≡ 256 * high + low) where
   tag_at : get_or s (length x) 0 ≡ tag
   tag_at = rw q (get_or-append_seam x tag (high ∷ low ∷ body ++ y) 0)
 
-  high-at : get_or s (length x + 1) 0 ≡ high
-  high-at = rw q (get_or-append-add x (tag ∷ high ∷ low ∷ body ++ y) 1 0)
+  high_at : get_or s (length x + 1) 0 ≡ high
+  high_at = rw q (get_or-append-add x (tag ∷ high ∷ low ∷ body ++ y) 1 0)
 
-  low-at : get_or s (length x + 2) 0 ≡ low
-  low-at = rw q (get_or-append-add x (tag ∷ high ∷ low ∷ body ++ y) 2 0)
+  low_at : get_or s (length x + 2) 0 ≡ low
+  low_at = rw q (get_or-append-add x (tag ∷ high ∷ low ∷ body ++ y) 2 0)
 
   size-at : size_at s (length x) ≡ length body
-  size-at = rw (high-at, low-at) (sym l)
+  size-at = rw (high_at, low_at) (sym l)
 
   ends-within : length x + 3 + length body ≤ length s
   ends-within =
@@ -47,29 +47,29 @@ module _ {s : List ℕ} (x y : List ℕ) (tag high low : ℕ) (body : List ℕ) 
       rw (e, d) (take-append_seam body y)
 
   -- it stands before its end
-  pub before-end : {a b : Content} → ReadUpTo s (length x) a → field_at s (length x) a ≡ goes (length x + 3 + length body) b → ReadUpTo s (length x + length (tag ∷ high ∷ low ∷ body)) b
-  before-end {a} {b} p k =
+  pub before_end : {a b : Content} → ReadUpTo s (length x) a → field_at s (length x) a ≡ goes (length x + 3 + length body) b → ReadUpTo s (length x + length (tag ∷ high ∷ low ∷ body)) b
+  before_end {a} {b} p k =
       let e : length x + 3 + length body ≡ length x + length (tag ∷ high ∷ low ∷ body) = omega arith in
       let w = ends-within in
       subst (λ (n : ℕ). ReadUpTo s n b) e (next p (omega arith) k)
 
   module _ (a : Content) where
-    pub picture-read : tag ≡ 0x50 → judgePicture (length a.pictures) (length x) body ≡ Accepted → field_at s (length x) a ≡ goes (length x + 3 + length body) (withPicture a body)
-    unfolding field_of pictureField outcome
+    pub picture-read : tag ≡ 0x50 → judge_picture (length a.pictures) (length x) body ≡ Accepted → field_at s (length x) a ≡ goes (length x + 3 + length body) (with_picture a body)
+    unfolding field_of picture_field outcome
     picture-read t sound =
         let w = ends-within in
         let k : length x + 3 + size_at s (length x) ≤ length s = rw size-at w in
-        let h = head-picture s (length x) (omega arith) k (tag_at ∙ t) in
-        field-headed s (length x) (Picture (length x + 3) (length x + 3 + size_at s (length x))) refl (sym h) a
+        let h = head_picture s (length x) (omega arith) k (tag_at ∙ t) in
+        field_headed s (length x) (Picture (length x + 3) (length x + 3 + size_at s (length x))) refl (sym h) a
         ∙ rw (size-at, body_at, sound)
 
-    pub rule-read : tag ≡ 0x52 → {t : Answer} → judgeRule (length a.rules) (length a.pictures) (length x) body ≡ t → field_at s (length x) a ≡ outcome t (length x + 3 + length body) (withRule a (symbolsOf body))
-    unfolding field_of ruleField
+    pub rule-read : tag ≡ 0x52 → {t : Answer} → judge_rule (length a.rules) (length a.pictures) (length x) body ≡ t → field_at s (length x) a ≡ outcome t (length x + 3 + length body) (with_rule a (symbols_of body))
+    unfolding field_of rule_field
     rule-read t judged =
         let w = ends-within in
         let k : length x + 3 + size_at s (length x) ≤ length s = rw size-at w in
-        let h = head-rule s (length x) (omega arith) k (λ z. omega (arith, tag_at)) (tag_at ∙ t) in
-        field-headed s (length x) (Rule (length x + 3) (length x + 3 + size_at s (length x))) refl (sym h) a
+        let h = head_rule s (length x) (omega arith) k (λ z. omega (arith, tag_at)) (tag_at ∙ t) in
+        field_headed s (length x) (Rule (length x + 3) (length x + 3 + size_at s (length x))) refl (sym h) a
         ∙ rw (size-at, body_at, judged)
 
 -- ---- many fields
@@ -109,17 +109,17 @@ pub record Stands (s : List ℕ) (at p k : ℕ) : Type 0 where
   pub rules : length content.rules ≡ k
 
 -- equal rules after p pictures, each accepted where there is room: as many as there may be
-module _ {s : List ℕ} (p high low : ℕ) (body : List ℕ) (l : length body ≡ 256 * high + low) (sound : (n at : ℕ) → n < mostRules → judgeRule n p at body ≡ Accepted) where
-  rule-more : (x y : List ℕ) (i : ℕ) → s ≡ x ++ (0x52 ∷ high ∷ low ∷ body ++ y) → i < mostRules → Stands s (length x) p i → Stands s (length x + length (0x52 ∷ high ∷ low ∷ body)) p (suc i)
+module _ {s : List ℕ} (p high low : ℕ) (body : List ℕ) (l : length body ≡ 256 * high + low) (sound : (n at : ℕ) → n < most_rules → judge_rule n p at body ≡ Accepted) where
+  rule-more : (x y : List ℕ) (i : ℕ) → s ≡ x ++ (0x52 ∷ high ∷ low ∷ body ++ y) → i < most_rules → Stands s (length x) p i → Stands s (length x + length (0x52 ∷ high ∷ low ∷ body)) p (suc i)
   unfolding outcome
   rule-more x y i q h r =
       let a = r.content in
       record {
-        content = withRule a (symbolsOf body);
-        before = before-end x y 0x52 high low body q l r.before (rule-read x y 0x52 high low body q l a refl {t = Accepted} (rw (r.pictures, r.rules) (sound i (length x) h)));
+        content = with_rule a (symbols_of body);
+        before = before_end x y 0x52 high low body q l r.before (rule-read x y 0x52 high low body q l a refl {t = Accepted} (rw (r.pictures, r.rules) (sound i (length x) h)));
         pictures = r.pictures;
-        rules = length-snoc a.rules (symbolsOf body) ∙ omega (arith, r.rules);
+        rules = length-snoc a.rules (symbols_of body) ∙ omega (arith, r.rules);
       }
 
-  pub rules-stand : (x y : List ℕ) → s ≡ x ++ (repeated mostRules (0x52 ∷ high ∷ low ∷ body) ++ y) → Stands s (length x) p 0 → Stands s (length (x ++ repeated mostRules (0x52 ∷ high ∷ low ∷ body))) p mostRules
-  rules-stand x y q r = many (0x52 ∷ high ∷ low ∷ body) mostRules (λ at i. Stands s at p i) rule-more mostRules x y 0 q (omega arith) r
+  pub rules_stand : (x y : List ℕ) → s ≡ x ++ (repeated most_rules (0x52 ∷ high ∷ low ∷ body) ++ y) → Stands s (length x) p 0 → Stands s (length (x ++ repeated most_rules (0x52 ∷ high ∷ low ∷ body))) p most_rules
+  rules_stand x y q r = many (0x52 ∷ high ∷ low ∷ body) most_rules (λ at i. Stands s at p i) rule-more most_rules x y 0 q (omega arith) r

@@ -6,9 +6,9 @@ use Rattle.format.specs.declared.Answer.{Answer}
 use Rattle.format.specs.declared.Head.TheVariants.{Short, Unknown, Picture, Rule}
 use Rattle.format.specs.declared.Answer.TheVariants.{Accepted, Refused}
 use Rattle.format.specs.declared.Refusal.TheVariants.{Cut, OtherTag, PictureBody, PictureMany, RuleBody, RuleLong, RuleMany, NoRule, UnknownKind, UndefinedPicture}
-use Rattle.book.specs.Limits.{mostPictures, mostRules, mostSymbols}
-use Rattle.book.specs.Content.{Content, nothing, withPicture, withRule}
-use Rattle.book.specs.Grown.{symbolsOf}
+use Rattle.book.specs.Limits.{most_pictures, most_rules, most_symbols}
+use Rattle.book.specs.Content.{Content, nothing, with_picture, with_rule}
+use Rattle.book.specs.Grown.{symbols_of}
 
 -- ---- a field's header
 
@@ -17,8 +17,8 @@ abbrev pub size_at : List ℕ → ℕ → ℕ
 size_at s at = 256 * get_or s (at + 1) 0 + get_or s (at + 2) 0
 
 -- the header of the field at a place: it or its body runs past the end, or its tag with the start and the end of its body
-unfoldable pub headAt : List ℕ → ℕ → Head
-headAt s at =
+unfoldable pub head_at : List ℕ → ℕ → Head
+head_at s at =
     cond (ltb (length s) (at + 3)) Short
     (cond (ltb (length s) (at + 3 + size_at s at)) Short
     (cond (eqb (get_or s at 0) 0x50) (Picture (at + 3) (at + 3 + size_at s at))
@@ -33,20 +33,20 @@ rises (c ∷ []) = true
 rises (c ∷ d ∷ m) = ltb c d && rises (d ∷ m)
 
 -- not empty and strictly ascending
-unfoldable pub ascendingBody : List ℕ → Bool
-ascendingBody m = ltb 0 (length m) && rises m
+unfoldable pub ascending_body : List ℕ → Bool
+ascending_body m = ltb 0 (length m) && rises m
 
 -- the picture at a place, with the body m, after p pictures: 5, 3
-unfoldable pub judgePicture : ℕ → ℕ → List ℕ → Answer
-judgePicture p at m =
-    cond (leb mostPictures p) (Refused (PictureMany at))
-    (cond (ascendingBody m) Accepted (Refused (PictureBody at)))
+unfoldable pub judge_picture : ℕ → ℕ → List ℕ → Answer
+judge_picture p at m =
+    cond (leb most_pictures p) (Refused (PictureMany at))
+    (cond (ascending_body m) Accepted (Refused (PictureBody at)))
 
 -- ---- a rule's body
 
 -- the pair `k b` at i, after p pictures: a byte, a picture that stands earlier, or 17 or 18 with the place of its first byte
-unfoldable pub judgeSymbol : ℕ → ℕ → ℕ → ℕ → Answer
-judgeSymbol p i k b =
+unfoldable pub judge_symbol : ℕ → ℕ → ℕ → ℕ → Answer
+judge_symbol p i k b =
     cond (eqb k 0) Accepted
     (cond (eqb k 1) (cond (ltb b p) Accepted (Refused (UndefinedPicture i))) (Refused (UnknownKind i)))
 
@@ -56,17 +56,17 @@ first_of Accepted y = y
 first_of (Refused r) y = Refused r
 
 -- the pairs of a body, where the first stands at i: the first at fault counts
-unfoldable pub judgeSymbols : ℕ → ℕ → List ℕ → Answer
-judgeSymbols p i [] = Accepted
-judgeSymbols p i (k ∷ []) = Accepted
-judgeSymbols p i (k ∷ b ∷ l) = first_of (judgeSymbol p i k b) (judgeSymbols p (i + 2) l)
+unfoldable pub judge_symbols : ℕ → ℕ → List ℕ → Answer
+judge_symbols p i [] = Accepted
+judge_symbols p i (k ∷ []) = Accepted
+judge_symbols p i (k ∷ b ∷ l) = first_of (judge_symbol p i k b) (judge_symbols p (i + 2) l)
 
 -- the rule at a place, with the body l, after n rules and p pictures: 8, 7, 6, then its symbols
-unfoldable pub judgeRule : ℕ → ℕ → ℕ → List ℕ → Answer
-judgeRule n p at l =
-    cond (leb mostRules n) (Refused (RuleMany at))
-    (cond (ltb (2 * mostSymbols) (length l)) (Refused (RuleLong at))
-    (cond (ltb 0 (length l) && eqb (length l % 2) 0) (judgeSymbols p (at + 3) l) (Refused (RuleBody at))))
+unfoldable pub judge_rule : ℕ → ℕ → ℕ → List ℕ → Answer
+judge_rule n p at l =
+    cond (leb most_rules n) (Refused (RuleMany at))
+    (cond (ltb (2 * most_symbols) (length l)) (Refused (RuleLong at))
+    (cond (ltb 0 (length l) && eqb (length l % 2) 0) (judge_symbols p (at + 3) l) (Refused (RuleBody at))))
 
 -- ---- a field
 
@@ -81,12 +81,12 @@ outcome Accepted e a = goes e a
 outcome (Refused r) e a = stops r
 
 -- a picture with the body m, which ends before e
-unfoldable pub pictureField : ℕ → ℕ → Content → List ℕ → Outcome
-pictureField at e a m = outcome (judgePicture (length a.pictures) at m) e (withPicture a m)
+unfoldable pub picture_field : ℕ → ℕ → Content → List ℕ → Outcome
+picture_field at e a m = outcome (judge_picture (length a.pictures) at m) e (with_picture a m)
 
 -- a rule with the body l, which ends before e
-unfoldable pub ruleField : ℕ → ℕ → Content → List ℕ → Outcome
-ruleField at e a l = outcome (judgeRule (length a.rules) (length a.pictures) at l) e (withRule a (symbolsOf l))
+unfoldable pub rule_field : ℕ → ℕ → Content → List ℕ → Outcome
+rule_field at e a l = outcome (judge_rule (length a.rules) (length a.pictures) at l) e (with_rule a (symbols_of l))
 
 -- the bytes from b on, before e
 abbrev pub part : List ℕ → ℕ → ℕ → List ℕ
@@ -96,12 +96,12 @@ part s b e = take (e - b) (drop b s)
 unfoldable pub field_of : List ℕ → ℕ → Content → Head → Outcome
 field_of s at a Short = stops (Cut at)
 field_of s at a Unknown = stops (OtherTag at)
-field_of s at a (Picture b e) = pictureField at e a (part s b e)
-field_of s at a (Rule b e) = ruleField at e a (part s b e)
+field_of s at a (Picture b e) = picture_field at e a (part s b e)
+field_of s at a (Rule b e) = rule_field at e a (part s b e)
 
 -- the field at a place, after what stands before
 unfoldable pub field_at : List ℕ → ℕ → Content → Outcome
-field_at s at a = field_of s at a (headAt s at)
+field_at s at a = field_of s at a (head_at s at)
 
 -- ---- a book
 
@@ -125,5 +125,5 @@ fields zero s at a = ended (length s) a
 fields (suc n) s at a = cond (ltb at (length s)) (follow (field_at s at a) (λ e b. fields n s e b)) (ended (length s) a)
 
 -- no field is empty, so a book has at most as many as bytes
-unfoldable pub meaningOf : List ℕ → Meaning
-meaningOf s = fields (length s) s 0 nothing
+unfoldable pub meaning_of : List ℕ → Meaning
+meaning_of s = fields (length s) s 0 nothing

@@ -1,6 +1,6 @@
 -- The largest book. Assumes nothing.
 use Rattle.std.specs.Prelude.{List, [], ◌∷◌, ◌++◌, ℕ, zero, suc}
-use Rattle.book.specs.Limits.{mostPictures, mostRules, mostSymbols}
+use Rattle.book.specs.Limits.{most_pictures, most_rules, most_symbols}
 use Rattle.book.specs.Content.{table}
 
 -- n times l, one after the other
@@ -13,9 +13,9 @@ abbrev pub all_bytes : List ℕ
 all_bytes = 0x50 ∷ 1 ∷ 0 ∷ table 256 (λ c. c)
 
 -- a rule as long as it may be, whose symbols are all the last picture
-abbrev pub longRule : List ℕ
-longRule = 0x52 ∷ 0 ∷ 128 ∷ repeated mostSymbols (1 ∷ 15 ∷ [])
+abbrev pub long_rule : List ℕ
+long_rule = 0x52 ∷ 0 ∷ 128 ∷ repeated most_symbols (1 ∷ 15 ∷ [])
 
 -- as many of both as there may be
-abbrev pub largestBook : List ℕ
-largestBook = repeated mostPictures all_bytes ++ repeated mostRules longRule
+abbrev pub largest_book : List ℕ
+largest_book = repeated most_pictures all_bytes ++ repeated most_rules long_rule

@@ -2,7 +2,7 @@
 use Rattle.std.specs.Prelude.{ℕ, ◌+◌, ◌*◌, ◌%◌, ◌≤◌, ◌<◌, ◌≡◌, ◌⊎◌, List, length, get_or}
 use Rattle.format.specs.declared.Refusal.{Refusal}
 use Rattle.format.specs.declared.Refusal.TheVariants.{UnknownKind, UndefinedPicture}
-use Rattle.book.specs.Limits.{mostRules, mostSymbols}
+use Rattle.book.specs.Limits.{most_rules, most_symbols}
 use Rattle.book.specs.Content.{Content, nothing}
 use Rattle.format.specs.Format.{size_at, goes, field_at}
 
@@ -32,8 +32,8 @@ pub record Faulty (s : List ℕ) (r : Refusal) : Type 0 where
   pub before : ReadUpTo s at content
   pub whole : at + 3 + size_at s at ≤ length s
   pub tag : get_or s at 0 ≡ 0x52
-  pub room : length content.rules < mostRules
-  pub short : size_at s at ≤ 2 * mostSymbols
+  pub room : length content.rules < most_rules
+  pub short : size_at s at ≤ 2 * most_symbols
   pub even : size_at s at % 2 ≡ 0
   pub inside : 2 * i < size_at s at
   pub sound : (j : ℕ) → j < i → IsSymbol (length content.pictures) (get_or s (at + 3 + 2 * j) 0) (get_or s (at + 3 + 2 * j + 1) 0)

@@ -1,8 +1,9 @@
 // The format of rule books: the answers to them, a field's header, and the test of a picture's body.
+#![tactic(auto)]
+
 ghost use Rattle.std.specs.Prelude.{◌≡◌, ◌+◌, ◌<◌, length};
-ghost use Rattle.moments.specs.Moments.{was};
 ghost use Rattle.format.specs.Answers.{number_of, value_of};
-ghost use Rattle.format.specs.Format.{size_at, headAt, ascendingBody};
+ghost use Rattle.format.specs.Format.{size_at, head_at, ascending_body};
 
 // Why a book is refused, and where: the field's offset; the offset of a symbol's first byte for the last two; the book's length where it
 // has no rule.
@@ -84,14 +85,14 @@ impl Answer {
 // The length that the header at `at` gives, the high byte first.
 fn size_at(bytes: &[u8], at: usize) -> usize
     requires { at + 2 < length bytes.now }
-    ensures { (result ≡ size_at (was bytes) at) × (result < 65536) }
+    ensures { (result ≡ size_at bytes.now at) × (result < 65536) }
 {
     256 * (bytes[at + 1] as usize) + bytes[at + 2] as usize
 }
 
 // The header of the field at `at`; cut short where that is past the end.
 pub fn head_at(bytes: &[u8], at: usize) -> Head
-    ensures { result ≡ headAt (was bytes) at }
+    ensures { result ≡ head_at bytes.now at }
 {
     if bytes.len() < at {
         return Head::Short;
@@ -119,7 +120,7 @@ pub fn head_at(bytes: &[u8], at: usize) -> Head
 
 // Is a picture's body not empty and strictly ascending?
 pub fn is_ascending(body: &[u8]) -> bool
-    ensures { result ≡ ascendingBody (was body) }
+    ensures { result ≡ ascending_body body.now }
 {
     if body.len() == 0 {
         return false;

@@ -17,5 +17,5 @@ BothFit (Wholes b t) books texts = (b < books) × (t < texts)
 BothFit Neither books texts = Unit {0}
 
 -- the tables that a program lends to a build: 120 rows, with every entry 0
-abbrev pub lentTables : Five
-lentTables = record { goto = replicate 30720 0; fall = replicate 120 0; held = replicate 120 0; live = replicate 480 0; out = replicate 480 0 }
+abbrev pub lent_tables : Five
+lent_tables = record { goto = replicate 30720 0; fall = replicate 120 0; held = replicate 120 0; live = replicate 480 0; out = replicate 480 0 }

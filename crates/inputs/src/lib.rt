@@ -1,7 +1,7 @@
 // What the programs for people read: a book and a text, each whole; and the tables that they lend.
+#![tactic(auto)]
 
 ghost use Rattle.std.specs.Prelude.{length};
-ghost use Rattle.moments.specs.Moments.{left};
 ghost use Rattle.inputs.specs.Inputs.{InputFits, BothFit};
 
 use libc::STDIN_FILENO;
@@ -34,7 +34,7 @@ pub enum Both {
 
 // Reads the book and the text.
 pub fn read_both(book: &mut [u8; BOOK_ROOM], text: &mut [u8; TEXT_ROOM]) -> Both
-    ensures { BothFit result (length (left book)) (length (left text)) }
+    ensures { BothFit result (length book.new) (length text.new) }
 {
     let Input::Whole(b) = read_book(book) else {
         return Both::Refused;
@@ -47,7 +47,7 @@ pub fn read_both(book: &mut [u8; BOOK_ROOM], text: &mut [u8; TEXT_ROOM]) -> Both
 
 // Reads the file `book.bin` of the working folder.
 fn read_book(room: &mut [u8; BOOK_ROOM]) -> Input
-    ensures { InputFits result (length (left room)) }
+    ensures { InputFits result (length room.new) }
 {
     let file = os::open_read(b"book.bin");
     if file < 0 {
@@ -60,14 +60,14 @@ fn read_book(room: &mut [u8; BOOK_ROOM]) -> Input
 
 // Reads standard input.
 fn read_text(room: &mut [u8; TEXT_ROOM]) -> Input
-    ensures { InputFits result (length (left room)) }
+    ensures { InputFits result (length room.new) }
 {
     read_all(STDIN_FILENO, room)
 }
 
 // Reads to the end of the input, which has to come before the room is full.
 fn read_all(file: i32, room: &mut [u8]) -> Input
-    ensures { InputFits result (length (left room)) }
+    ensures { InputFits result (length room.new) }
 {
     let mut done = 0;
     while done < room.len() {

@@ -7,22 +7,22 @@ use native.Mathlib.Nat.{add-zero}
 use native.Mathlib.Omega.{arith}
 use lib.Dec.{eqb}
 use lib.ListN.{length, get_or, drop}
-use Rattle.lines.specs.Lines.{semicolon, joined, split, lastFrom, last_of}
+use Rattle.lines.specs.Lines.{semicolon, joined, split, last_from, last_of}
 use Rattle.lines.specs.Written.{start_of}
-use Rattle.lines.proofs.Pieces.{start-from}
-use Rattle.leaf.specs.Leaf.{leafOf, leafStart}
+use Rattle.lines.proofs.Pieces.{start_from}
+use Rattle.leaf.specs.Leaf.{leaf_of, leaf_start}
 
 -- The last of a text's pieces: the text itself where no mark is in it, or else what stands behind the last mark, at i.
 data Last (mark : ℕ) : List ℕ → List (List ℕ) → Type 0 where
-  only : {text : List ℕ} → ((at last : ℕ) → lastFrom mark at last text ≡ last) → Last mark text (text ∷ [])
-  behind : {text p q : List ℕ} {qs : List (List ℕ)} (i : ℕ) → i < length text → ((at last : ℕ) → lastFrom mark at last text ≡ at + i)
+  only : {text : List ℕ} → ((at last : ℕ) → last_from mark at last text ≡ last) → Last mark text (text ∷ [])
+  behind : {text p q : List ℕ} {qs : List (List ℕ)} (i : ℕ) → i < length text → ((at last : ℕ) → last_from mark at last text ≡ at + i)
       → start_of 0 (p ∷ q ∷ qs) (suc (length qs)) ≡ suc i → get_or (q ∷ qs) (length qs) [] ≡ drop (suc i) text → Last mark text (p ∷ q ∷ qs)
 
 module _ (mark : ℕ) where
   -- the last mark, where a byte more stands in front
-  from_cons : (c : ℕ) (text : List ℕ) {b : Bool} (at last : ℕ) → eqb c mark ≡ b → lastFrom mark at last (c ∷ text) ≡ lastFrom mark (at + 1) (cond b at last) text
-  unfolding lastFrom
-  from_cons c text at last e = ap (λ b. lastFrom mark (at + 1) (cond b at last) text) e
+  from_cons : (c : ℕ) (text : List ℕ) {b : Bool} (at last : ℕ) → eqb c mark ≡ b → last_from mark at last (c ∷ text) ≡ last_from mark (at + 1) (cond b at last) text
+  unfolding last_from
+  from_cons c text at last e = ap (λ b. last_from mark (at + 1) (cond b at last) text) e
 
   -- the first piece is one byte longer, or a mark stands in front of it
   last_cons : (c : ℕ) (text : List ℕ) (b : Bool) (ps : List (List ℕ)) → eqb c mark ≡ b → Last mark text ps
@@ -34,18 +34,18 @@ module _ (mark : ℕ) where
   last_cons c text false _ e (only f) = only (λ at last. from_cons c text at last e ∙ f (at + 1) last)
   last_cons c text true _ e (behind {p = p} {q = q} {qs = qs} i h f s g) =
       let l : suc i < length (c ∷ text) = omega arith in
-      let t = start-from (p ∷ q ∷ qs) 1 (suc (length qs)) in
+      let t = start_from (p ∷ q ∷ qs) 1 (suc (length qs)) in
       behind (suc i) l (λ at last. from_cons c text at last e ∙ f (at + 1) at ∙ omega arith) (t ∙ omega arith) g
   last_cons c text false _ e (behind {p = p} {q = q} {qs = qs} i h f s g) =
       let l : suc i < length (c ∷ text) = omega arith in
-      let t = start-from (q ∷ qs) (0 + length p + 1) (length qs) in
-      let u = start-from (q ∷ qs) (0 + length (c ∷ p) + 1) (length qs) in
+      let t = start_from (q ∷ qs) (0 + length p + 1) (length qs) in
+      let u = start_from (q ∷ qs) (0 + length (c ∷ p) + 1) (length qs) in
       behind (suc i) l (λ at last. from_cons c text at last e ∙ f (at + 1) last ∙ omega arith) (u ∙ omega arith) g
 
-  last-is : (text : List ℕ) → Last mark text (split mark ([] ∷ []) text)
-  unfolding split lastFrom
-  last-is [] = only (λ at last. refl)
-  last-is (c ∷ text) = last_cons c text (eqb c mark) (split mark ([] ∷ []) text) refl (last-is text)
+  last_is : (text : List ℕ) → Last mark text (split mark ([] ∷ []) text)
+  unfolding split last_from
+  last_is [] = only (λ at last. refl)
+  last_is (c ∷ text) = last_cons c text (eqb c mark) (split mark ([] ∷ []) text) refl (last_is text)
 
 -- What is known of the start and the bytes of the last piece.
 record LastPiece (mark : ℕ) (text : List ℕ) (start : ℕ) (bytes : List ℕ) : Type 0 where
@@ -67,18 +67,18 @@ last-piece {mark} (behind {text = text} {p = p} {q = q} {qs = qs} i h f s g) =
 -- ---- the leaf of a stack
 
 module _ (stack : List ℕ) where
-  leaf-piece : LastPiece semicolon stack (leafStart stack) (leafOf stack)
-  leaf-piece = last-piece (last-is semicolon stack)
+  leaf_piece : LastPiece semicolon stack (leaf_start stack) (leaf_of stack)
+  leaf_piece = last-piece (last_is semicolon stack)
 
-  pub leaf-none : last_of semicolon stack ≡ length stack → leafStart stack ≡ 0
-  leaf-none = leaf-piece.alone
+  pub leaf_none : last_of semicolon stack ≡ length stack → leaf_start stack ≡ 0
+  leaf_none = leaf_piece.alone
 
-  pub leaf-behind : last_of semicolon stack < length stack → leafStart stack ≡ last_of semicolon stack + 1
-  leaf-behind = leaf-piece.marked
+  pub leaf_behind : last_of semicolon stack < length stack → leaf_start stack ≡ last_of semicolon stack + 1
+  leaf_behind = leaf_piece.marked
 
-  pub start-within : leafStart stack ≤ length stack
-  start-within = leaf-piece.within
+  pub start-within : leaf_start stack ≤ length stack
+  start-within = leaf_piece.within
 
   -- all from its start on
-  pub leaf-is : leafOf stack ≡ drop (leafStart stack) stack
-  leaf-is = leaf-piece.rest
+  pub leaf_is : leaf_of stack ≡ drop (leaf_start stack) stack
+  leaf_is = leaf_piece.rest

@@ -12,21 +12,21 @@ use Rattle.lines.proofs.First.{not_through}
 use Rattle.leaf.specs.declared.Ended.{Ended}
 use Rattle.leaf.specs.declared.Ended.TheVariants.{InRow, AtByte}
 use Rattle.leaf.specs.declared.Leaf.TheVariants.{Counts, Fails}
-use Rattle.leaf.specs.Leaf.{leafOf, leafStart, end_of, onEnd, unnamed, familyAt, stackLeaf, onLeaf}
+use Rattle.leaf.specs.Leaf.{leaf_of, leaf_start, end_of, on_end, unnamed, family_at, stack_leaf, on_leaf}
 
 module _ {A : Type 0} (b : Five) (n : ℕ) (f : ℕ → ℕ → A) (g : ℕ → A) where
-  pub stack-by-end : (stack : List ℕ) (count : ℕ) → onLeaf (stackLeaf b n stack count) f g
-      ≡ onEnd (end_of (move_of b.goto b.fall n) (leafOf stack)) (λ row. f (familyAt b.held b.live b.out row (length (leafOf stack))) count) (λ at. g (leafStart stack + at))
-  unfolding stackLeaf
-  stack-by-end stack count = go (end_of (move_of b.goto b.fall n) (leafOf stack))
+  pub stack_by_end : (stack : List ℕ) (count : ℕ) → on_leaf (stack_leaf b n stack count) f g
+      ≡ on_end (end_of (move_of b.goto b.fall n) (leaf_of stack)) (λ row. f (family_at b.held b.live b.out row (length (leaf_of stack))) count) (λ at. g (leaf_start stack + at))
+  unfolding stack_leaf
+  stack_by_end stack count = go (end_of (move_of b.goto b.fall n) (leaf_of stack))
     where
-      go : (e : Ended) → onLeaf (onEnd e (λ row. Counts (familyAt b.held b.live b.out row (length (leafOf stack))) count) (λ at. Fails (leafStart stack + at))) f g
-          ≡ onEnd e (λ row. f (familyAt b.held b.live b.out row (length (leafOf stack))) count) (λ at. g (leafStart stack + at))
+      go : (e : Ended) → on_leaf (on_end e (λ row. Counts (family_at b.held b.live b.out row (length (leaf_of stack))) count) (λ at. Fails (leaf_start stack + at))) f g
+          ≡ on_end e (λ row. f (family_at b.held b.live b.out row (length (leaf_of stack))) count) (λ at. g (leaf_start stack + at))
       go (InRow row) = refl
       go (AtByte at) = refl
 
 -- A count at the place of a row's family is there by the family, where the walk gets through.
-pub kept-end : (e : Ended) (family : ℕ → ℕ) (p count : ℕ) (fails : ℕ → ℕ) → onEnd e (λ row. Through) (λ i. Ends (fails i)) ≡ Through
-    → onEnd e (λ row. cond (eqb (family row) p) count 0) (λ at. 0) ≡ cond (eqb (onEnd e family (λ at. unnamed)) p) count 0
-kept-end (InRow row) family p count fails t = refl
-kept-end (AtByte at) family p count fails t = not_through t
+pub kept_end : (e : Ended) (family : ℕ → ℕ) (p count : ℕ) (fails : ℕ → ℕ) → on_end e (λ row. Through) (λ i. Ends (fails i)) ≡ Through
+    → on_end e (λ row. cond (eqb (family row) p) count 0) (λ at. 0) ≡ cond (eqb (on_end e family (λ at. unnamed)) p) count 0
+kept_end (InRow row) family p count fails t = refl
+kept_end (AtByte at) family p count fails t = not_through t

@@ -1,11 +1,11 @@
 // The leaf of a line: its last frame is walked over tables, and the line's count goes to the lowest rule that fits the whole of it, or to unnamed.
+#![tactic(auto)]
 
 ghost use Rattle.std.specs.Prelude.{◌≡◌, get_or};
-ghost use Rattle.moments.specs.Moments.{was};
-ghost use Rattle.sets.specs.Sets.{setOf};
+ghost use Rattle.sets.specs.Sets.{set_of};
 ghost use Rattle.lent.specs.Lent.{given};
 ghost use Rattle.one_byte.specs.Move.{move_of};
-ghost use Rattle.leaf.specs.Leaf.{leafStart, end_of, lowestOf, familyAt, lineLeaf};
+ghost use Rattle.leaf.specs.Leaf.{leaf_start, end_of, lowest_of, family_at, line_leaf};
 
 use book::Book;
 use lines::{Line, SEMICOLON};
@@ -29,7 +29,7 @@ pub enum Leaf {
 
 // Where the last frame of a stack starts: behind its last `;`.
 fn leaf_start(stack: &[u8]) -> usize
-    ensures { result ≡ leafStart (was stack) }
+    ensures { result ≡ leaf_start stack.now }
 {
     let mark = lines::find_last(stack, SEMICOLON);
     if mark == stack.len() {
@@ -40,7 +40,7 @@ fn leaf_start(stack: &[u8]) -> usize
 
 // Walks a leaf as a text of its own, and reports nothing.
 fn walk_leaf(goto: &[u16], fall: &[u16], n: usize, leaf: &[u8]) -> Ended
-    ensures { result ≡ end_of (move_of (was goto) (was fall) n) (was leaf) }
+    ensures { result ≡ end_of (move_of goto.now fall.now n) leaf.now }
 {
     let mut row = 0;
     let mut at = 0;
@@ -61,7 +61,7 @@ fn walk_leaf(goto: &[u16], fall: &[u16], n: usize, leaf: &[u8]) -> Ended
 
 // The lowest rule that is in both sets, or the place after the last rule.
 fn lowest(live: &[u64], out: &[u64]) -> usize
-    ensures { result ≡ lowestOf (setOf (was live)) (setOf (was out)) }
+    ensures { result ≡ lowest_of (set_of live.now) (set_of out.now) }
 {
     let mut i: usize = 0;
     while i < WORDS {
@@ -76,7 +76,7 @@ fn lowest(live: &[u64], out: &[u64]) -> usize
 
 // A row's held length; 0 where the table has no such row.
 fn held_at(held: &[u8], row: usize) -> usize
-    ensures { result ≡ get_or (was held) row 0 }
+    ensures { result ≡ get_or held.now row 0 }
 {
     if row < held.len() {
         return held[row] as usize;
@@ -86,7 +86,7 @@ fn held_at(held: &[u8], row: usize) -> usize
 
 // The family of a leaf of `size` bytes whose walk ends in the row.
 fn family(held: &[u8], live: &[u64], out: &[u64], row: usize, size: usize) -> usize
-    ensures { result ≡ familyAt (was held) (was live) (was out) row size }
+    ensures { result ≡ family_at held.now live.now out.now row size }
 {
     if held_at(held, row) != size {
         return Book::RULES;
@@ -108,7 +108,7 @@ pub fn of_line(
     n: usize,
     line: &[u8],
 ) -> Leaf
-    ensures { result ≡ lineLeaf (given goto fall held live out) n (was line) }
+    ensures { result ≡ line_leaf (given goto.now fall.now held.now live.now out.now) n line.now }
 {
     match lines::read_line(line) {
         Line::Sound { stack, count } => {

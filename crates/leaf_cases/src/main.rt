@@ -1,6 +1,8 @@
 // Leaf totals by the thousand, over the tables of drawn books and over damaged ones: what the proved sum of leaves answers, and every total of its record,
 // is compared with a second reading, which is written from the paper's words alone; and the shares of records with shares dealt out one by one.
 // Of the proved crates it takes the tables of a book, which `cases` compares with the book's bytes.
+#![tactic(auto)]
+
 mod compare;
 mod draw;
 mod limits;

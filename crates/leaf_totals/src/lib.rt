@@ -1,7 +1,8 @@
 // The record of leaf totals, and the answers to adding a profile to it, with the paper's numbers and values.
+#![tactic(auto)]
 
 ghost use Rattle.std.specs.Prelude.{◌≡◌};
-ghost use Rattle.leaf_totals.specs.Record.{mostProfiles, totalsIn, emptyTotals};
+ghost use Rattle.leaf_totals.specs.Record.{most_profiles, totals_in, empty_totals};
 ghost use Rattle.leaf_totals.specs.Totalled.{number_of, value_of};
 
 use book::Book;
@@ -33,8 +34,8 @@ pub enum Totalled {
 impl LeafTotals {
     // Nothing counted.
     pub fn empty() -> LeafTotals
-        ensures value { result ≡ emptyTotals }
-        ensures value_2 { PROFILES ≡ mostProfiles }
+        ensures is_empty { result ≡ empty_totals }
+        ensures profiles { PROFILES ≡ most_profiles }
     {
         LeafTotals {
             totals: [0; Book::RULES],
@@ -78,7 +79,7 @@ impl Totalled {
 
 // All totals of a record, unnamed last.
 pub fn totals_of(old: LeafTotals) -> [u64; PLACES]
-    ensures { result ≡ totalsIn old }
+    ensures { result ≡ totals_in old }
 {
     let mut all: [u64; PLACES] = [0; PLACES];
     let mut i: usize = 0;

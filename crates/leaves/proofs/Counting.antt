@@ -8,69 +8,69 @@ use native.Mathlib.Omega.{arith}
 use borrow.Author.Tests.{eq-eqb, ne_eqb}
 use lib.ListN.{length, get_or, set, drop, replicate, length-set, length-replicate, drop_of_length-le}
 use lib.Seq.{get_or-set_same, get_or-set_other}
-use Rattle.sets.specs.Sums.{sumOver}
-use Rattle.sets.proofs.Zeros.{zero-at}
+use Rattle.sets.specs.Sums.{sum_over}
+use Rattle.sets.proofs.Zeros.{zero_at}
 use Rattle.meaning.specs.Tables.{Five}
-use Rattle.book.specs.Limits.{mostBytes}
+use Rattle.book.specs.Limits.{most_bytes}
 use Rattle.lines.specs.declared.Pass.TheVariants.{Through, Ends}
-use Rattle.lines.specs.Lines.{lf, split, lines_of, up_to, onPass, passOver}
-use Rattle.lines.proofs.Lines.{piece, lines_step, lines-pass, lines_end}
+use Rattle.lines.specs.Lines.{lf, split, lines_of, up_to, on_pass, pass_over}
+use Rattle.lines.proofs.Lines.{piece, lines_step, lines_pass_lem, lines_end}
 use Rattle.lines.proofs.Counts.{counts-fit}
 use Rattle.book.specs.Content.{table}
-use Rattle.shares.specs.Shares.{allPlaces, amountAt}
-use Rattle.book.proofs.Tables.{is-table}
+use Rattle.shares.specs.Shares.{all_places, amount_at}
+use Rattle.book.proofs.Tables.{is_table}
 use Rattle.leaf.specs.declared.Leaf.{Leaf}
 use Rattle.leaf.specs.declared.Leaf.TheVariants.{Counts}
-use Rattle.leaf.specs.Leaf.{lineLeaf, onLeaf}
-use Rattle.leaves.specs.Totals.{leafPass, leavesPass, lineAdds, profileAdds}
+use Rattle.leaf.specs.Leaf.{line_leaf, on_leaf}
+use Rattle.leaves.specs.Totals.{leaf_pass, leaves_pass, line_adds, profile_adds}
 use Rattle.leaf.proofs.Place.{place-within}
 use Rattle.leaves.proofs.EachPlace.{adds-within}
 
 module _ (b : Five) (n : ℕ) (profile : List ℕ) where
   -- what the lines from `at` on add to a place
   abbrev rest : ℕ → ℕ → ℕ
-  rest at p = sumOver (lineAdds b n p) (lines_of (drop at profile))
+  rest at p = sum_over (line_adds b n p) (lines_of (drop at profile))
 
   -- what is counted of the lines before `at`
   pub record Counted (at : ℕ) (parts : List ℕ) : Type 0 where
-    pub long : length parts ≡ allPlaces
-    pub each : (p : ℕ) → p < allPlaces → amountAt parts p + rest at p ≡ profileAdds b n p profile
+    pub long : length parts ≡ all_places
+    pub each : (p : ℕ) → p < all_places → amount_at parts p + rest at p ≡ profile_adds b n p profile
 
-  pub counted_none : Counted 0 (replicate allPlaces 0)
-  unfolding profileAdds
-  counted_none = record { long = length-replicate {A = ℕ} allPlaces 0; each = λ p h. omega (arith, zero-at allPlaces p) }
+  pub counted_none : Counted 0 (replicate all_places 0)
+  unfolding profile_adds
+  counted_none = record { long = length-replicate {A = ℕ} all_places 0; each = λ p h. omega (arith, zero_at all_places p) }
 
-  pub counted-all : {at : ℕ} {parts : List ℕ} → length profile ≤ at → Counted at parts → parts ≡ table allPlaces (λ p. profileAdds b n p profile)
-  unfolding split sumOver
+  pub counted-all : {at : ℕ} {parts : List ℕ} → length profile ≤ at → Counted at parts → parts ≡ table all_places (λ p. profile_adds b n p profile)
+  unfolding split sum_over
   counted-all {at} {parts} h c =
-      is-table allPlaces (λ p. profileAdds b n p profile) parts c.long (λ p l. omega (arith, c.each p l, none p))
+      is_table all_places (λ p. profile_adds b n p profile) parts c.long (λ p l. omega (arith, c.each p l, none p))
     where
       none : (p : ℕ) → rest at p ≡ 0
       none p = rw drop_of_length-le
 
   -- the next line, which ends before `end`
   module _ {at end : ℕ} (l : at < length profile) (e : end ≡ at + up_to lf (drop at profile)) (m : end ≤ length profile) where
-    rest-step : (p : ℕ) → rest at p ≡ lineAdds b n p (piece profile at end) + rest (end + 1) p
-    unfolding sumOver
-    rest-step p = ap (sumOver (lineAdds b n p)) (lines_step profile at end l e m)
+    rest_step : (p : ℕ) → rest at p ≡ line_adds b n p (piece profile at end) + rest (end + 1) p
+    unfolding sum_over
+    rest_step p = ap (sum_over (line_adds b n p)) (lines_step profile at end l e m)
 
-    module _ {r : Leaf} {place count : ℕ} (w : r ≡ lineLeaf b n (piece profile at end)) (q : r ≡ Counts place count) where
-      counts-there : lineLeaf b n (piece profile at end) ≡ Counts place count
+    module _ {r : Leaf} {place count : ℕ} (w : r ≡ line_leaf b n (piece profile at end)) (q : r ≡ Counts place count) where
+      counts-there : line_leaf b n (piece profile at end) ≡ Counts place count
       counts-there = sym w ∙ q
 
-      own : lineAdds b n place (piece profile at end) ≡ count
-      unfolding lineAdds
+      own : line_adds b n place (piece profile at end) ≡ count
+      unfolding line_adds
       own = rw (counts-there, eq-eqb place place refl)
 
-      other : (p : ℕ) → place ≢ p → lineAdds b n p (piece profile at end) ≡ 0
-      unfolding lineAdds
+      other : (p : ℕ) → place ≢ p → line_adds b n p (piece profile at end) ≡ 0
+      unfolding line_adds
       other p d = rw (counts-there, ne_eqb place p d)
 
-      pub place-there : place < allPlaces
+      pub place-there : place < all_places
       place-there = omega (arith, place-within b n (piece profile at end) counts-there)
 
-      pub count_fits : {parts : List ℕ} → length profile ≤ mostBytes → Counted at parts → get_or parts place 0 + count < 2 ^ 64
-      count_fits short c = omega (arith, c.each place place-there, rest-step place, own, adds-within b n place profile, counts-fit profile short)
+      pub count_fits : {parts : List ℕ} → length profile ≤ most_bytes → Counted at parts → get_or parts place 0 + count < 2 ^ 64
+      count_fits short c = omega (arith, c.each place place-there, rest_step place, own, adds-within b n place profile, counts-fit profile short)
 
       pub counted_next : {parts : List ℕ} → Counted at parts → Counted (end + 1) (set parts place (get_or parts place 0 + count))
       counted_next {parts} c = record {
@@ -84,21 +84,21 @@ module _ (b : Five) (n : ℕ) (profile : List ℕ) where
           more : List ℕ
           more = set parts place (get_or parts place 0 + count)
 
-          same : amountAt more place + rest (end + 1) place ≡ profileAdds b n place profile
-          same = omega (arith, get_or-set_same parts place (get_or parts place 0 + count) 0 (omega (arith, c.long, place-there)), c.each place place-there, rest-step place, own)
+          same : amount_at more place + rest (end + 1) place ≡ profile_adds b n place profile
+          same = omega (arith, get_or-set_same parts place (get_or parts place 0 + count) 0 (omega (arith, c.long, place-there)), c.each place place-there, rest_step place, own)
 
-          differs : (p : ℕ) → p < allPlaces → place ≢ p → amountAt more p + rest (end + 1) p ≡ profileAdds b n p profile
-          differs p h d = omega (arith, get_or-set_other parts place p (get_or parts place 0 + count) 0 (λ z. d (sym z)), c.each p h, rest-step p, other p d)
+          differs : (p : ℕ) → p < all_places → place ≢ p → amount_at more p + rest (end + 1) p ≡ profile_adds b n p profile
+          differs p h d = omega (arith, get_or-set_other parts place p (get_or parts place 0 + count) 0 (λ z. d (sym z)), c.each p h, rest_step p, other p d)
 
-    here : {r q : Leaf} → r ≡ lineLeaf b n (piece profile at end) → r ≡ q → leafPass b n at (piece profile at end) ≡ onLeaf q (λ place count. Through) (λ i. Ends (at + i))
-    unfolding leafPass
-    here w q = ap (λ x. onLeaf x (λ place count. Through) (λ i. Ends (at + i))) (sym w ∙ q)
+    here : {r q : Leaf} → r ≡ line_leaf b n (piece profile at end) → r ≡ q → leaf_pass b n at (piece profile at end) ≡ on_leaf q (λ place count. Through) (λ i. Ends (at + i))
+    unfolding leaf_pass
+    here w q = ap (λ x. on_leaf x (λ place count. Through) (λ i. Ends (at + i))) (sym w ∙ q)
 
     -- its part in the pass, where its leaf is q
-    pub leaf-turn : {r q : Leaf} → r ≡ lineLeaf b n (piece profile at end) → r ≡ q → passOver (leafPass b n) at (lines_of (drop at profile)) ≡ leavesPass b n profile
-        → onPass (onLeaf q (λ place count. Through) (λ i. Ends (at + i))) (passOver (leafPass b n) (end + 1) (lines_of (drop (end + 1) profile))) ≡ leavesPass b n profile
-    leaf-turn w q so =
-        sym (lines-pass (leafPass b n) profile at end l e m ∙ ap (λ x. onPass x (passOver (leafPass b n) (end + 1) (lines_of (drop (end + 1) profile)))) (here w q)) ∙ so
+    pub leaf_turn : {r q : Leaf} → r ≡ line_leaf b n (piece profile at end) → r ≡ q → pass_over (leaf_pass b n) at (lines_of (drop at profile)) ≡ leaves_pass b n profile
+        → on_pass (on_leaf q (λ place count. Through) (λ i. Ends (at + i))) (pass_over (leaf_pass b n) (end + 1) (lines_of (drop (end + 1) profile))) ≡ leaves_pass b n profile
+    leaf_turn w q so =
+        sym (lines_pass_lem (leaf_pass b n) profile at end l e m ∙ ap (λ x. on_pass x (pass_over (leaf_pass b n) (end + 1) (lines_of (drop (end + 1) profile)))) (here w q)) ∙ so
 
-  pub leaves-end : {at : ℕ} → length profile ≤ at → passOver (leafPass b n) at (lines_of (drop at profile)) ≡ leavesPass b n profile → Through ≡ leavesPass b n profile
-  leaves-end h so = sym (lines_end (leafPass b n) profile _ h) ∙ so
+  pub leaves_end : {at : ℕ} → length profile ≤ at → pass_over (leaf_pass b n) at (lines_of (drop at profile)) ≡ leaves_pass b n profile → Through ≡ leaves_pass b n profile
+  leaves_end h so = sym (lines_end (leaf_pass b n) profile _ h) ∙ so

@@ -8,40 +8,40 @@ use native.Mathlib.Omega.{arith}
 use borrow.Author.Tests.{eq-eqb, ne_eqb}
 use lib.Dec.{eqb}
 use lib.ListN.{length}
-use Rattle.sets.specs.Sums.{sumOver}
-use Rattle.sets.proofs.Sums.{sum-le}
+use Rattle.sets.specs.Sums.{sum_over}
+use Rattle.sets.proofs.Sums.{sum_le}
 use Rattle.meaning.specs.Tables.{Five}
 use Rattle.lines.specs.declared.Pass.TheVariants.{Through, Ends}
-use Rattle.lines.specs.Lines.{lines_of, passOver}
-use Rattle.lines.specs.Profile.{countIn, counts}
+use Rattle.lines.specs.Lines.{lines_of, pass_over}
+use Rattle.lines.specs.Profile.{count_in, counts}
 use Rattle.lines.proofs.First.{not_through, both-through}
-use Rattle.shares.specs.Below.{sumBelow}
-use Rattle.shares.specs.Shares.{allPlaces}
-use Rattle.shares.proofs.Below.{sum-plus, zeros-below}
+use Rattle.shares.specs.Below.{sum_below}
+use Rattle.shares.specs.Shares.{all_places}
+use Rattle.shares.proofs.Below.{sum_plus, zeros-below}
 use Rattle.leaf.specs.declared.Leaf.{Leaf}
 use Rattle.leaf.specs.declared.Leaf.TheVariants.{Counts, Fails}
-use Rattle.leaf.specs.Leaf.{lineLeaf, onLeaf}
-use Rattle.leaves.specs.Totals.{leafPass, leavesPass, lineAdds, profileAdds}
-use Rattle.leaf.proofs.Place.{OnePlace, line-placed}
+use Rattle.leaf.specs.Leaf.{line_leaf, on_leaf}
+use Rattle.leaves.specs.Totals.{leaf_pass, leaves_pass, line_adds, profile_adds}
+use Rattle.leaf.proofs.Place.{OnePlace, line_placed}
 
 -- ---- no place has more than the counts
 
 module _ (b : Five) (n : ℕ) where
-  line-adds-within : (p : ℕ) (line : List ℕ) → lineAdds b n p line ≤ countIn line
-  unfolding lineAdds
-  line-adds-within p line = go (lineLeaf b n line) (line-placed b n line)
+  line_adds-within : (p : ℕ) (line : List ℕ) → line_adds b n p line ≤ count_in line
+  unfolding line_adds
+  line_adds-within p line = go (line_leaf b n line) (line_placed b n line)
     where
       some : (t : Bool) (c : ℕ) → cond t c 0 ≤ c
       some true c = omega arith
       some false c = omega arith
 
-      go : (l : Leaf) → OnePlace (countIn line) l → onLeaf l (λ place count. cond (eqb place p) count 0) (λ i. 0) ≤ countIn line
+      go : (l : Leaf) → OnePlace (count_in line) l → on_leaf l (λ place count. cond (eqb place p) count 0) (λ i. 0) ≤ count_in line
       go (Counts place count) h = omega (arith, some (eqb place p) count, h.1)
       go (Fails at) h = omega arith
 
-  pub adds-within : (p : ℕ) (profile : List ℕ) → profileAdds b n p profile ≤ counts profile
-  unfolding profileAdds
-  adds-within p profile = sum-le (lineAdds b n p) countIn (line-adds-within p) (lines_of profile)
+  pub adds-within : (p : ℕ) (profile : List ℕ) → profile_adds b n p profile ≤ counts profile
+  unfolding profile_adds
+  adds-within p profile = sum_le (line_adds b n p) count_in (line_adds-within p) (lines_of profile)
 
 -- ---- sums over the places
 
@@ -50,11 +50,11 @@ module _ (q c : ℕ) where
   abbrev at_place : ℕ → ℕ
   at_place p = cond (eqb q p) c 0
 
-  none_below : (n : ℕ) → n ≤ q → sumBelow at_place n ≡ 0
+  none_below : (n : ℕ) → n ≤ q → sum_below at_place n ≡ 0
   none_below n h = zeros-below at_place n (λ p l. rw (ne_eqb q p (λ z. omega arith)))
 
-  one_below : (n : ℕ) → q < n → sumBelow at_place n ≡ c
-  unfolding sumBelow
+  one_below : (n : ℕ) → q < n → sum_below at_place n ≡ c
+  unfolding sum_below
   one_below zero h = absurd (omega arith)
   one_below (suc n) h = elim (dec_lt q n) [
     | yes l ↦ rw (ne_eqb q n (λ z. omega arith)) (omega (arith, one_below n l))
@@ -64,23 +64,23 @@ module _ (q c : ℕ) where
 -- ---- a pass that gets through adds all the counts
 
 module _ (b : Five) (n : ℕ) where
-  line-adds-all : (at : ℕ) (line : List ℕ) → leafPass b n at line ≡ Through → sumBelow (λ p. lineAdds b n p line) allPlaces ≡ countIn line
-  unfolding leafPass lineAdds
-  line-adds-all at line = go (lineLeaf b n line) (line-placed b n line)
+  line_adds-all : (at : ℕ) (line : List ℕ) → leaf_pass b n at line ≡ Through → sum_below (λ p. line_adds b n p line) all_places ≡ count_in line
+  unfolding leaf_pass line_adds
+  line_adds-all at line = go (line_leaf b n line) (line_placed b n line)
     where
-      go : (l : Leaf) → OnePlace (countIn line) l → onLeaf l (λ place count. Through) (λ i. Ends (at + i)) ≡ Through
-          → sumBelow (λ p. onLeaf l (λ place count. cond (eqb place p) count 0) (λ i. 0)) allPlaces ≡ countIn line
-      go (Counts place count) h e = one_below place count allPlaces (omega (arith, h.0)) ∙ h.1
+      go : (l : Leaf) → OnePlace (count_in line) l → on_leaf l (λ place count. Through) (λ i. Ends (at + i)) ≡ Through
+          → sum_below (λ p. on_leaf l (λ place count. cond (eqb place p) count 0) (λ i. 0)) all_places ≡ count_in line
+      go (Counts place count) h e = one_below place count all_places (omega (arith, h.0)) ∙ h.1
       go (Fails i) h e = not_through e
 
-  lines-add-all : (ls : List (List ℕ)) (at : ℕ) → passOver (leafPass b n) at ls ≡ Through → sumBelow (λ p. sumOver (lineAdds b n p) ls) allPlaces ≡ sumOver countIn ls
-  unfolding passOver sumOver
-  lines-add-all [] at e = zeros-below (λ p. 0) allPlaces (λ p l. refl)
-  lines-add-all (l ∷ ls) at e =
-      let (here, rest) = both-through (leafPass b n at l) (passOver (leafPass b n) (at + length l + 1) ls) e in
-      sum-plus (λ p. lineAdds b n p l) (λ p. sumOver (lineAdds b n p) ls) allPlaces
-      ∙ ap₂ ◌+◌ (line-adds-all at l here) (lines-add-all ls (at + length l + 1) rest)
+  lines_add_all : (ls : List (List ℕ)) (at : ℕ) → pass_over (leaf_pass b n) at ls ≡ Through → sum_below (λ p. sum_over (line_adds b n p) ls) all_places ≡ sum_over count_in ls
+  unfolding pass_over sum_over
+  lines_add_all [] at e = zeros-below (λ p. 0) all_places (λ p l. refl)
+  lines_add_all (l ∷ ls) at e =
+      let (here, rest) = both-through (leaf_pass b n at l) (pass_over (leaf_pass b n) (at + length l + 1) ls) e in
+      sum_plus (λ p. line_adds b n p l) (λ p. sum_over (line_adds b n p) ls) all_places
+      ∙ ap₂ ◌+◌ (line_adds-all at l here) (lines_add_all ls (at + length l + 1) rest)
 
-  pub adds-to-counts : (profile : List ℕ) → leavesPass b n profile ≡ Through → sumBelow (λ p. profileAdds b n p profile) allPlaces ≡ counts profile
-  unfolding leavesPass profileAdds
-  adds-to-counts profile e = lines-add-all (lines_of profile) 0 e
+  pub adds-to-counts : (profile : List ℕ) → leaves_pass b n profile ≡ Through → sum_below (λ p. profile_adds b n p profile) all_places ≡ counts profile
+  unfolding leaves_pass profile_adds
+  adds-to-counts profile e = lines_add_all (lines_of profile) 0 e

@@ -1,12 +1,12 @@
 -- Leaf totals: what a profile adds to each family, the record, and the answer of a call. Assumes nothing.
 use Rattle.std.specs.Prelude.{cond, List, ℕ, ◌+◌, leb, ltb, eqb, length}
-use Rattle.sets.specs.Sums.{sumOver}
+use Rattle.sets.specs.Sums.{sum_over}
 use Rattle.meaning.specs.Tables.{Five}
-use Rattle.book.specs.Limits.{mostRules, mostBytes}
-use Rattle.lent.specs.Lent.{hasRows}
+use Rattle.book.specs.Limits.{most_rules, most_bytes}
+use Rattle.lent.specs.Lent.{has_rows}
 use Rattle.lines.specs.declared.Pass.{Pass}
 use Rattle.lines.specs.declared.Pass.TheVariants.{Through, Ends}
-use Rattle.lines.specs.Lines.{lines_of, passOver, checkOf}
+use Rattle.lines.specs.Lines.{lines_of, pass_over, check_of}
 use Rattle.lines.specs.Profile.{counts}
 use Rattle.shares.specs.declared.Shares.{Shares}
 use Rattle.book.specs.Content.{table}
@@ -14,66 +14,66 @@ use Rattle.shares.specs.Shares.{limit, shares_of}
 use Rattle.leaf_totals.specs.declared.LeafTotals.{LeafTotals}
 use Rattle.leaf_totals.specs.declared.Totalled.{Totalled}
 use Rattle.leaf_totals.specs.declared.Totalled.TheVariants.{Accepted, Full, TooLong, BadRows, BadLine, Damaged, Past}
-use Rattle.leaf_totals.specs.Record.{mostProfiles, totalAt, totalsIn, wholeIn}
+use Rattle.leaf_totals.specs.Record.{most_profiles, total_at, totals_in, whole_in}
 use Rattle.leaves.specs.declared.Handed.{Handed}
-use Rattle.leaf.specs.Leaf.{unnamed, lineLeaf, onLeaf}
+use Rattle.leaf.specs.Leaf.{unnamed, line_leaf, on_leaf}
 
 -- ---- a profile
 
 module _ (b : Five) (n : ℕ) where
   -- A walk that fails ends the pass at the byte's offset in the profile.
-  unfoldable pub leafPass : ℕ → List ℕ → Pass
-  leafPass at line = onLeaf (lineLeaf b n line) (λ place count. Through) (λ i. Ends (at + i))
+  unfoldable pub leaf_pass : ℕ → List ℕ → Pass
+  leaf_pass at line = on_leaf (line_leaf b n line) (λ place count. Through) (λ i. Ends (at + i))
 
-  unfoldable pub leavesPass : List ℕ → Pass
-  leavesPass profile = passOver leafPass 0 (lines_of profile)
+  unfoldable pub leaves_pass : List ℕ → Pass
+  leaves_pass profile = pass_over leaf_pass 0 (lines_of profile)
 
   -- what a line adds to a place: its count, where its leaf belongs there
-  unfoldable pub lineAdds : ℕ → List ℕ → ℕ
-  lineAdds p line = onLeaf (lineLeaf b n line) (λ place count. cond (eqb place p) count 0) (λ i. 0)
+  unfoldable pub line_adds : ℕ → List ℕ → ℕ
+  line_adds p line = on_leaf (line_leaf b n line) (λ place count. cond (eqb place p) count 0) (λ i. 0)
 
   -- The total of the counts of the lines whose leaf belongs at place p.
-  unfoldable pub profileAdds : ℕ → List ℕ → ℕ
-  profileAdds p profile = sumOver (lineAdds p) (lines_of profile)
+  unfoldable pub profile_adds : ℕ → List ℕ → ℕ
+  profile_adds p profile = sum_over (line_adds p) (lines_of profile)
 
 -- ---- the record
 
 -- the record with so much more at each place, and one profile more
-unfoldable pub withParts : LeafTotals → (ℕ → ℕ) → LeafTotals
-withParts t part = record { totals = table mostRules (λ k. totalAt t k + part k); unnamed = totalAt t unnamed + part unnamed; profiles = t.profiles + 1 }
+unfoldable pub with_parts : LeafTotals → (ℕ → ℕ) → LeafTotals
+with_parts t part = record { totals = table most_rules (λ k. total_at t k + part k); unnamed = total_at t unnamed + part unnamed; profiles = t.profiles + 1 }
 
 -- ---- a call
 
 -- f of the offset where a pass ends, or what is next
-abbrev pub afterPass : Pass → (ℕ → Totalled) → Totalled → Totalled
-afterPass (Ends at) f next = f at
-afterPass Through f next = next
+abbrev pub after_pass : Pass → (ℕ → Totalled) → Totalled → Totalled
+after_pass (Ends at) f next = f at
+after_pass Through f next = next
 
 -- The answer: every line is judged before a leaf is walked, and every leaf is walked before the limit is asked for.
-unfoldable pub addAnswer : Five → ℕ → List ℕ → LeafTotals → Totalled
-addAnswer b n profile t =
-    cond (leb mostProfiles t.profiles) Full
-    (cond (ltb mostBytes (length profile)) TooLong
-    (cond (hasRows b n)
-    (afterPass (checkOf profile) (λ at. BadLine at)
-    (afterPass (leavesPass b n profile) (λ at. Damaged at)
-    (cond (ltb limit (wholeIn t + counts profile)) Past Accepted)))
+unfoldable pub add_answer : Five → ℕ → List ℕ → LeafTotals → Totalled
+add_answer b n profile t =
+    cond (leb most_profiles t.profiles) Full
+    (cond (ltb most_bytes (length profile)) TooLong
+    (cond (has_rows b n)
+    (after_pass (check_of profile) (λ at. BadLine at)
+    (after_pass (leaves_pass b n profile) (λ at. Damaged at)
+    (cond (ltb limit (whole_in t + counts profile)) Past Accepted)))
     (BadRows n)))
 
 -- The record after an answer: a refusal hands it back as it was.
-abbrev pub recordAfter : Totalled → LeafTotals → (ℕ → ℕ) → LeafTotals
-recordAfter Accepted t part = withParts t part
-recordAfter Full t part = t
-recordAfter TooLong t part = t
-recordAfter (BadRows rows) t part = t
-recordAfter (BadLine at) t part = t
-recordAfter (Damaged at) t part = t
-recordAfter Past t part = t
+abbrev pub record_after : Totalled → LeafTotals → (ℕ → ℕ) → LeafTotals
+record_after Accepted t part = with_parts t part
+record_after Full t part = t
+record_after TooLong t part = t
+record_after (BadRows rows) t part = t
+record_after (BadLine at) t part = t
+record_after (Damaged at) t part = t
+record_after Past t part = t
 
-abbrev pub addOf : Five → ℕ → List ℕ → LeafTotals → Handed
-addOf b n profile t =
-    record { answer = addAnswer b n profile t; back = recordAfter (addAnswer b n profile t) t (λ p. profileAdds b n p profile) }
+abbrev pub add_of : Five → ℕ → List ℕ → LeafTotals → Handed
+add_of b n profile t =
+    record { answer = add_answer b n profile t; back = record_after (add_answer b n profile t) t (λ p. profile_adds b n p profile) }
 
 -- The shares of a record: those of its totals, unnamed last.
-abbrev pub sharesIn : LeafTotals → Shares
-sharesIn t = shares_of (totalsIn t)
+abbrev pub shares_in : LeafTotals → Shares
+shares_in t = shares_of (totals_in t)

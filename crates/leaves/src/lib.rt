@@ -1,13 +1,13 @@
 // Leaf totals per family, over up to 1,024 profiles: the record, a profile added to it, and its shares.
+#![tactic(auto)]
 
 ghost use Rattle.std.specs.Prelude.{◌≡◌, ◌≤◌, ◌<◌, length};
-ghost use Rattle.moments.specs.Moments.{was};
-ghost use Rattle.book.specs.Limits.{mostBytes};
+ghost use Rattle.book.specs.Limits.{most_bytes};
 ghost use Rattle.lent.specs.Lent.{given};
-ghost use Rattle.shares.specs.Shares.{amountAt};
-ghost use Rattle.leaf_totals.specs.Record.{mostProfiles};
-ghost use Rattle.leaves.specs.Totals.{withParts, addOf, sharesIn};
-ghost use Rattle.leaves.specs.Steps.{CountedLines, TakesParts, handsBack, merged};
+ghost use Rattle.shares.specs.Shares.{amount_at};
+ghost use Rattle.leaf_totals.specs.Record.{most_profiles};
+ghost use Rattle.leaves.specs.Totals.{with_parts, add_of, shares_in};
+ghost use Rattle.leaves.specs.Steps.{CountedLines, TakesParts, hands_back, merged};
 
 use book::Book;
 use leaf::Leaf;
@@ -41,8 +41,8 @@ fn count_lines(
     n: usize,
     profile: &[u8],
 ) -> Parts
-    requires { length profile.now ≤ mostBytes }
-    ensures { CountedLines (given goto fall held live out) n (was profile) result }
+    requires { length profile.now ≤ most_bytes }
+    ensures { CountedLines (given goto.now fall.now held.now live.now out.now) n profile.now result }
 {
     let mut parts: [u64; PLACES] = [0; PLACES];
     let mut at = 0;
@@ -72,7 +72,7 @@ fn count_lines(
 // The record with the parts of one profile more.
 fn with_parts(old: LeafTotals, parts: &[u64; PLACES]) -> LeafTotals
     requires { TakesParts old parts.now }
-    ensures { result ≡ withParts old (amountAt (was parts)) }
+    ensures { result ≡ with_parts old (amount_at parts.now) }
 {
     let mut totals: [u64; Book::RULES] = [0; Book::RULES];
     let mut i: usize = 0;
@@ -89,14 +89,14 @@ fn with_parts(old: LeafTotals, parts: &[u64; PLACES]) -> LeafTotals
 
 // The record as it was beside a refusal.
 fn refused(answer: Totalled, old: LeafTotals) -> Handed
-    ensures { result ≡ handsBack answer old }
+    ensures { result ≡ hands_back answer old }
 {
     Handed { answer, back: old }
 }
 
 // What was counted joins the record, where all of it was and the total stays within the limit.
 fn merge(counted: Parts, old: LeafTotals) -> Handed
-    requires { old.profiles < mostProfiles }
+    requires { old.profiles < most_profiles }
     ensures { result ≡ merged counted old }
 {
     let pass = counted.pass;
@@ -129,7 +129,7 @@ pub fn add(
     profile: &[u8],
     old: LeafTotals,
 ) -> Handed
-    ensures { result ≡ addOf (given goto fall held live out) n (was profile) old }
+    ensures { result ≡ add_of (given goto.now fall.now held.now live.now out.now) n profile.now old }
 {
     if PROFILES <= old.profiles {
         return refused(Totalled::Full, old);
@@ -151,7 +151,7 @@ pub fn add(
 
 // The shares of a record in thousandths, unnamed last.
 pub fn shares_of(old: LeafTotals) -> Shares
-    ensures { result ≡ sharesIn old }
+    ensures { result ≡ shares_in old }
 {
     shares::share(&leaf_totals::totals_of(old))
 }

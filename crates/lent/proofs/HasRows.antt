@@ -7,7 +7,7 @@ use native.Mathlib.Omega.{arith}
 use native.Mathlib.Decide.{dec_lt}
 use borrow.Author.Tests.{lt-leb, le-leb, eq-eqb, ne_eqb}
 use Rattle.meaning.specs.Tables.{Five}
-use Rattle.lent.specs.Lent.{lent, Lends, LentIs, hasRows}
+use Rattle.lent.specs.Lent.{lent, Lends, LentIs, has_rows}
 
 pub lent_is : LentIs
 lent_is b n = (
@@ -16,23 +16,23 @@ lent_is b n = (
 )
 
 module _ (b : Five) (n : ℕ) where
-  pub lends-or-not : Dec (Lends b n)
-  lends-or-not = elim (dec_lt (lent b) n) [ yes l ↦ no (λ x. omega (arith, l, (lent_is b n).1 x)) | no g ↦ yes ((lent_is b n).0 (omega arith)) ]
+  pub lends_or_not : Dec (Lends b n)
+  lends_or_not = elim (dec_lt (lent b) n) [ yes l ↦ no (λ x. omega (arith, l, (lent_is b n).1 x)) | no g ↦ yes ((lent_is b n).0 (omega arith)) ]
 
-  pub none-or-unlent : (n ≡ 0) ⊎ (¬ Lends b n) → (n ≡ 0) ⊎ (lent b < n)
-  none-or-unlent (inl q) = inl q
-  none-or-unlent (inr ne) = inr (elim (dec_lt (lent b) n) [ yes l ↦ l | no g ↦ absurd (ne ((lent_is b n).0 (omega arith))) ])
+  pub none_or_unlent : (n ≡ 0) ⊎ (¬ Lends b n) → (n ≡ 0) ⊎ (lent b < n)
+  none_or_unlent (inl q) = inl q
+  none_or_unlent (inr ne) = inr (elim (dec_lt (lent b) n) [ yes l ↦ l | no g ↦ absurd (ne ((lent_is b n).0 (omega arith))) ])
 
-  pub rows-lent : n ≢ 0 → n ≤ lent b → hasRows b n ≡ true
+  pub rows-lent : n ≢ 0 → n ≤ lent b → has_rows b n ≡ true
   rows-lent ne h = rw (ne_eqb n 0 ne, le-leb n (lent b) h)
 
-  pub no_rows : n ≡ 0 → hasRows b n ≡ false
+  pub no_rows : n ≡ 0 → has_rows b n ≡ false
   no_rows q = rw (eq-eqb n 0 q)
 
-  pub few-lent : n ≢ 0 → lent b < n → hasRows b n ≡ false
+  pub few-lent : n ≢ 0 → lent b < n → has_rows b n ≡ false
   few-lent ne h = rw (ne_eqb n 0 ne, lt-leb n (lent b) h)
 
-  pub has-rows : hasRows b n ≡ true → (n ≢ 0) × (n ≤ lent b)
+  pub has-rows : has_rows b n ≡ true → (n ≢ 0) × (n ≤ lent b)
   has-rows e =
       elim (dec_lt 0 n) [
         | no g ↦ absurd (true≢false (sym e ∙ no_rows (omega arith)))

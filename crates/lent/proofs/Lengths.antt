@@ -7,18 +7,18 @@ lent_rows = record {
   most = refl;
   one_more = refl;
   many_more = refl;
-  goto-less = refl;
+  goto_less = refl;
   fall-less = refl;
   held-less = refl;
   live-less = refl;
   out-less = refl;
   no_row = refl;
-  one-row = refl;
-  two-rows = refl;
+  one_row_lem = refl;
+  two_rows_lem = refl;
 }
 
-pub rows-had : RowsHad
-rows-had = record { none = refl; one = refl; two = refl; three = refl }
+pub rows_had : RowsHad
+rows_had = record { none = refl; one = refl; two = refl; three = refl }
 
-pub entries-left : EntriesLeft
-entries-left = record { zeros-are = refl; row-0 = refl; row-1 = refl; row-2 = refl }
+pub entries_left : EntriesLeft
+entries_left = record { zeros_are = refl; row_0 = refl; row_1 = refl; row_2 = refl }

@@ -1,29 +1,24 @@
 -- The five buffers that are lent: the rows that they lend, whether so many are, each entry 0, a set stored in a row. Assumes nothing.
 use Rattle.std.specs.Prelude.{◌≡◌, ◌↔◌, Bool, cond, not, ◌&&◌, List, ℕ, ◌*◌, ◌/◌, ◌≤◌, min, eqb, leb, ltb, length, replicate}
-use Rattle.std.specs.Borrow.{Bor}
-use denote.Triple.Both.{Both}
 use Rattle.std.proofs.lemmas.List.Edits.{sets}
-use Rattle.moments.specs.Moments.{was, left}
-use Rattle.sets.specs.Table.{rowWords}
+use Rattle.sets.specs.Table.{row_words}
 use Rattle.meaning.specs.Tables.{Five}
-use Rattle.book.specs.Limits.{mostRows}
+use Rattle.book.specs.Limits.{most_rows}
 
 -- From the tables' lengths: goto has 256 entries a row, live and out have a row's words. Never more than the limit.
 abbrev pub lent_of : ℕ → ℕ → ℕ → ℕ → ℕ → ℕ
-lent_of goto fall held live out = min (goto / 256) (min fall (min held (min (live / rowWords) (min (out / rowWords) mostRows))))
+lent_of goto fall held live out = min (goto / 256) (min fall (min held (min (live / row_words) (min (out / row_words) most_rows))))
 
 abbrev pub five : List ℕ → List ℕ → List ℕ → List ℕ → List ℕ → Five
 five g f h l o = record { goto = g; fall = f; held = h; live = l; out = o }
 
 -- the five that a function is lent, as they were when it was called
-abbrev pub given : {A B C D E : Type 0} → Both (Bor (List ℕ)) A → Both (Bor (List ℕ)) B → Both (Bor (List ℕ)) C → Both (Bor (List ℕ)) D → Both (Bor (List ℕ)) E
-    → Five
-given goto fall held live out = five (was goto) (was fall) (was held) (was live) (was out)
+abbrev pub given : List ℕ → List ℕ → List ℕ → List ℕ → List ℕ → Five
+given goto fall held live out = five goto fall held live out
 
 -- and as they are left when it returns
-abbrev pub returned : {A B C D E : Type 0} → Both A (Bor (List ℕ)) → Both B (Bor (List ℕ)) → Both C (Bor (List ℕ)) → Both D (Bor (List ℕ)) → Both E (Bor (List ℕ))
-    → Five
-returned goto fall held live out = five (left goto) (left fall) (left held) (left live) (left out)
+abbrev pub returned : List ℕ → List ℕ → List ℕ → List ℕ → List ℕ → Five
+returned goto fall held live out = five goto fall held live out
 
 -- the rows lent
 abbrev pub lent : Five → ℕ
@@ -43,8 +38,8 @@ abbrev pub LentIs : Type 0
 LentIs = (b : Five) (n : ℕ) → (n ≤ lent b) ↔ Lends b n
 
 -- n is not 0, and not more than the rows lent
-abbrev pub hasRows : Five → ℕ → Bool
-hasRows b n = not (eqb n 0) && leb n (lent b)
+abbrev pub has_rows : Five → ℕ → Bool
+has_rows b n = not (eqb n 0) && leb n (lent b)
 
 -- every entry 0
 abbrev pub zeros : List ℕ → List ℕ
@@ -55,12 +50,12 @@ zeroed b = five (zeros b.goto) (zeros b.fall) (zeros b.held) (zeros b.live) (zer
 
 -- each is as long as it was
 pub record AsLong (old b : Five) : Type 0 where
-  pub goto-long : length b.goto ≡ length old.goto
+  pub goto_long : length b.goto ≡ length old.goto
   pub fall-long : length b.fall ≡ length old.fall
   pub held-long : length b.held ≡ length old.held
   pub live-long : length b.live ≡ length old.live
   pub out-long : length b.out ≡ length old.out
 
 -- a table of sets with these words in row n; as it was where it has no such row, or where the words are not as many as a row's
-abbrev pub storedRow : List ℕ → ℕ → List ℕ → List ℕ
-storedRow table n ws = cond (ltb n (length table / rowWords) && eqb (length ws) rowWords) (sets table (rowWords * n) ws) table
+abbrev pub stored_row : List ℕ → ℕ → List ℕ → List ℕ
+stored_row table n ws = cond (ltb n (length table / row_words) && eqb (length ws) row_words) (sets table (row_words * n) ws) table

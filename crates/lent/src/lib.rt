@@ -1,8 +1,8 @@
 // The five buffers that are lent: the rows that they lend and whether so many are, zeros in every entry, a set stored in a row.
+#![tactic(auto)]
 
 ghost use Rattle.std.specs.Prelude.{◌≡◌, min};
-ghost use Rattle.moments.specs.Moments.{was, left};
-ghost use Rattle.lent.specs.Lent.{lent_of, given, hasRows, zeros, storedRow};
+ghost use Rattle.lent.specs.Lent.{lent_of, given, has_rows, zeros, stored_row};
 
 use book::Book;
 use words::WORDS;
@@ -30,7 +30,7 @@ pub fn has_rows(
     out: &[u64],
     n: usize,
 ) -> bool
-    ensures { result ≡ hasRows (given goto fall held live out) n }
+    ensures { result ≡ has_rows (given goto.now fall.now held.now live.now out.now) n }
 {
     if n == 0 {
         return false;
@@ -39,7 +39,7 @@ pub fn has_rows(
 }
 
 fn zero16(numbers: &mut [u16])
-    ensures { left numbers ≡ zeros (was numbers) }
+    ensures { numbers.new ≡ zeros numbers.old }
 {
     let mut i = 0;
     while i < numbers.len() {
@@ -49,7 +49,7 @@ fn zero16(numbers: &mut [u16])
 }
 
 fn zero8(bytes: &mut [u8])
-    ensures { left bytes ≡ zeros (was bytes) }
+    ensures { bytes.new ≡ zeros bytes.old }
 {
     let mut i = 0;
     while i < bytes.len() {
@@ -59,7 +59,7 @@ fn zero8(bytes: &mut [u8])
 }
 
 fn zero64(words: &mut [u64])
-    ensures { left words ≡ zeros (was words) }
+    ensures { words.new ≡ zeros words.old }
 {
     let mut i = 0;
     while i < words.len() {
@@ -76,8 +76,8 @@ pub fn zero_all(
     live: &mut [u64],
     out: &mut [u64],
 )
-    ensures { (left goto ≡ zeros (was goto)) × (left fall ≡ zeros (was fall)) × (left held ≡ zeros (was held))
-        × (left live ≡ zeros (was live)) × (left out ≡ zeros (was out)) }
+    ensures { (goto.new ≡ zeros goto.old) × (fall.new ≡ zeros fall.old) × (held.new ≡ zeros held.old)
+        × (live.new ≡ zeros live.old) × (out.new ≡ zeros out.old) }
 {
     zero16(goto);
     zero16(fall);
@@ -88,7 +88,7 @@ pub fn zero_all(
 
 // The words of a set in row n of a table. Where there is no such row, or the words are not a row's, the table stays as it was.
 pub fn store(table: &mut [u64], n: usize, set: &[u64])
-    ensures { left table ≡ storedRow (was table) n (was set) }
+    ensures { table.new ≡ stored_row table.old n set.now }
 {
     if table.len() / WORDS <= n {
         return;

@@ -10,7 +10,7 @@ use Rattle.lines.specs.declared.Line.{Line}
 use Rattle.lines.specs.declared.Line.TheVariants.{Sound, Broken}
 use Rattle.lines.specs.declared.Pass.{Pass}
 use Rattle.lines.specs.declared.Pass.TheVariants.{Through, Ends}
-use Rattle.lines.specs.Lines.{lines_of, onPass, passOver, line_of, onLine, lineCheck, checkOf}
+use Rattle.lines.specs.Lines.{lines_of, on_pass, pass_over, line_of, on_line, line_check, check_of}
 use Rattle.lines.specs.Written.{start_of}
 use Rattle.lines.specs.Profile.{AllSound, FirstBroken}
 
@@ -22,7 +22,7 @@ endings (Ends at) = 1
 pub not_through : {A : Type 0} {at : ℕ} → Ends at ≡ Through → A
 not_through e = absurd (omega (arith, ap endings e))
 
-pub both-through : (a b : Pass) → onPass a b ≡ Through → (a ≡ Through) × (b ≡ Through)
+pub both-through : (a b : Pass) → on_pass a b ≡ Through → (a ≡ Through) × (b ≡ Through)
 both-through Through b e = (refl, e)
 both-through (Ends at) b e = not_through e
 
@@ -31,47 +31,47 @@ module _ (each : ℕ → List ℕ → Pass) where
   abbrev Lets : ℕ → List (List ℕ) → ℕ → Type 0
   Lets at ps i = each (start_of at ps i) (get_or ps i []) ≡ Through
 
-  pub pass-through : (ps : List (List ℕ)) (at : ℕ) → ((i : ℕ) → i < length ps → Lets at ps i) → passOver each at ps ≡ Through
-  unfolding passOver start_of
-  pass-through [] at h = refl
-  pass-through (p ∷ ps) at h = rw (h 0 (omega arith)) (pass-through ps (at + length p + 1) (λ i l. h (suc i) (omega arith)))
+  pub pass_through : (ps : List (List ℕ)) (at : ℕ) → ((i : ℕ) → i < length ps → Lets at ps i) → pass_over each at ps ≡ Through
+  unfolding pass_over start_of
+  pass_through [] at h = refl
+  pass_through (p ∷ ps) at h = rw (h 0 (omega arith)) (pass_through ps (at + length p + 1) (λ i l. h (suc i) (omega arith)))
 
-  pub pass-first : (ps : List (List ℕ)) (at i : ℕ) {e : ℕ} → i < length ps → each (start_of at ps i) (get_or ps i []) ≡ Ends e → ((j : ℕ) → j < i → Lets at ps j)
-      → passOver each at ps ≡ Ends e
-  unfolding passOver start_of
-  pass-first [] at i l q h = absurd (omega arith)
-  pass-first (p ∷ ps) at zero l q h = rw q
-  pass-first (p ∷ ps) at (suc i) l q h = rw (h 0 (omega arith)) (pass-first ps (at + length p + 1) i (omega arith) q (λ j m. h (suc j) (omega arith)))
+  pub pass_first : (ps : List (List ℕ)) (at i : ℕ) {e : ℕ} → i < length ps → each (start_of at ps i) (get_or ps i []) ≡ Ends e → ((j : ℕ) → j < i → Lets at ps j)
+      → pass_over each at ps ≡ Ends e
+  unfolding pass_over start_of
+  pass_first [] at i l q h = absurd (omega arith)
+  pass_first (p ∷ ps) at zero l q h = rw q
+  pass_first (p ∷ ps) at (suc i) l q h = rw (h 0 (omega arith)) (pass_first ps (at + length p + 1) i (omega arith) q (λ j m. h (suc j) (omega arith)))
 
 -- ---- lines
 
-line-through : (at : ℕ) (line : List ℕ) → line_of line ≢ Broken → lineCheck at line ≡ Through
-unfolding lineCheck
-line-through at line h = go (line_of line) h
+line_through : (at : ℕ) (line : List ℕ) → line_of line ≢ Broken → line_check at line ≡ Through
+unfolding line_check
+line_through at line h = go (line_of line) h
   where
-    go : (l : Line) → l ≢ Broken → onLine l (λ stack count. Through) (Ends at) ≡ Through
+    go : (l : Line) → l ≢ Broken → on_line l (λ stack count. Through) (Ends at) ≡ Through
     go (Sound stack count) h = refl
     go Broken h = absurd (h refl)
 
 -- whether all lines are sound, by computing
-unfoldable pub areSound : List (List ℕ) → Bool
-areSound [] = true
-areSound (line ∷ ls) = onLine (line_of line) (λ stack count. areSound ls) false
+unfoldable pub are_sound : List (List ℕ) → Bool
+are_sound [] = true
+are_sound (line ∷ ls) = on_line (line_of line) (λ stack count. are_sound ls) false
 
-pub are-sound : (ls : List (List ℕ)) → areSound ls ≡ true → AllSound ls
-unfolding areSound
-are-sound [] x = λ i l q. omega arith
-are-sound (line ∷ ls) x = go (line_of line) refl x (are-sound ls)
+pub are_sound_lem : (ls : List (List ℕ)) → are_sound ls ≡ true → AllSound ls
+unfolding are_sound
+are_sound_lem [] x = λ i l q. omega arith
+are_sound_lem (line ∷ ls) x = go (line_of line) refl x (are_sound_lem ls)
   where
-    go : (k : Line) → line_of line ≡ k → onLine k (λ stack count. areSound ls) false ≡ true → (areSound ls ≡ true → AllSound ls) → AllSound (line ∷ ls)
+    go : (k : Line) → line_of line ≡ k → on_line k (λ stack count. are_sound ls) false ≡ true → (are_sound ls ≡ true → AllSound ls) → AllSound (line ∷ ls)
     go (Sound stack count) e y rest zero l q = let z : ◌≡◌ {A = ℕ} 0 1 = cc in omega arith
     go (Sound stack count) e y rest (suc i) l q = rest y i (omega arith) q
     go Broken e y rest i l q = false≢true y
 
-pub checked : (profile : List ℕ) → AllSound (lines_of profile) → checkOf profile ≡ Through
-unfolding checkOf
-checked profile h = pass-through lineCheck (lines_of profile) 0 (λ i l. line-through _ _ (h i l))
+pub checked : (profile : List ℕ) → AllSound (lines_of profile) → check_of profile ≡ Through
+unfolding check_of
+checked profile h = pass_through line_check (lines_of profile) 0 (λ i l. line_through _ _ (h i l))
 
-pub broken-at : (profile : List ℕ) (i : ℕ) → FirstBroken (lines_of profile) i → checkOf profile ≡ Ends (start_of 0 (lines_of profile) i)
-unfolding checkOf lineCheck
-broken-at profile i f = pass-first lineCheck (lines_of profile) 0 i f.below (rw f.broken) (λ j l. line-through _ _ (f.before j l))
+pub broken_at : (profile : List ℕ) (i : ℕ) → FirstBroken (lines_of profile) i → check_of profile ≡ Ends (start_of 0 (lines_of profile) i)
+unfolding check_of line_check
+broken_at profile i f = pass_first line_check (lines_of profile) 0 i f.below (rw f.broken) (λ j l. line_through _ _ (f.before j l))

@@ -16,9 +16,9 @@ pub data Free (mark : ℕ) : List ℕ → Type 0 where
   more : {c : ℕ} {s : List ℕ} → c ≢ mark → Free mark s → Free mark (c ∷ s)
 
 module _ {mark : ℕ} where
-  pub free-from : (p : List ℕ) → ((j : ℕ) → j < length p → get_or p j 0 ≢ mark) → Free mark p
-  free-from [] n = none
-  free-from (c ∷ p) n = more (n 0 (omega arith)) (free-from p (λ j h. n (suc j) (omega arith)))
+  pub free_from : (p : List ℕ) → ((j : ℕ) → j < length p → get_or p j 0 ≢ mark) → Free mark p
+  free_from [] n = none
+  free_from (c ∷ p) n = more (n 0 (omega arith)) (free_from p (λ j h. n (suc j) (omega arith)))
 
 -- ---- a text's first piece
 
@@ -42,53 +42,53 @@ pub data Text (mark : ℕ) : List ℕ → List (List ℕ) → Type 0 where
   next : {p t : List ℕ} {ps : List (List ℕ)} → Free mark p → Text mark t ps → Text mark (p ++ mark ∷ t) (p ∷ ps)
 
 module _ {mark : ℕ} where
-  pub text-split : {t : List ℕ} {ps : List (List ℕ)} → Text mark t ps → split mark [] t ≡ ps
+  pub text_split : {t : List ℕ} {ps : List (List ℕ)} → Text mark t ps → split mark [] t ≡ ps
   unfolding split
-  text-split empty = refl
-  text-split (last {c} {p} e f) = split-last [] (λ c. refl) c p e f
-  text-split (next {p} {t} {ps} f v) = split-next [] t f ∙ ap (λ qs. p ∷ qs) (text-split v)
+  text_split empty = refl
+  text_split (last {c} {p} e f) = split-last [] (λ c. refl) c p e f
+  text_split (next {p} {t} {ps} f v) = split-next [] t f ∙ ap (λ qs. p ∷ qs) (text_split v)
 
 -- ---- pieces joined, and split again
 
 module _ (mark : ℕ) where
-  first-free : (p : List ℕ) (ps : List (List ℕ)) → Without mark (p ∷ ps) → Free mark p
-  first-free p ps w = free-from p (λ j h. w 0 j (omega arith) h)
+  first_free : (p : List ℕ) (ps : List (List ℕ)) → Without mark (p ∷ ps) → Free mark p
+  first_free p ps w = free_from p (λ j h. w 0 j (omega arith) h)
 
-  rest-free : (p : List ℕ) (ps : List (List ℕ)) → Without mark (p ∷ ps) → Without mark ps
-  rest-free p ps w i j h g = w (suc i) j (omega arith) g
+  rest_free : (p : List ℕ) (ps : List (List ℕ)) → Without mark (p ∷ ps) → Without mark ps
+  rest_free p ps w i j h g = w (suc i) j (omega arith) g
 
-  text-ended : (ps : List (List ℕ)) → 1 ≤ length ps → Without mark ps → Text mark (join mark ps ++ mark ∷ []) ps
+  text_ended : (ps : List (List ℕ)) → 1 ≤ length ps → Without mark ps → Text mark (join mark ps ++ mark ∷ []) ps
   unfolding join
-  text-ended [] h w = absurd (omega arith)
-  text-ended (p ∷ []) h w = next (first-free p [] w) empty
-  text-ended (p ∷ q ∷ ps) h w = rw append_assoc (next (first-free p (q ∷ ps) w) (text-ended (q ∷ ps) (omega arith) (rest-free p (q ∷ ps) w)))
+  text_ended [] h w = absurd (omega arith)
+  text_ended (p ∷ []) h w = next (first_free p [] w) empty
+  text_ended (p ∷ q ∷ ps) h w = rw append_assoc (next (first_free p (q ∷ ps) w) (text_ended (q ∷ ps) (omega arith) (rest_free p (q ∷ ps) w)))
 
-  text-open : (ps : List (List ℕ)) → LastSome ps → Without mark ps → Text mark (join mark ps) ps
+  text_open : (ps : List (List ℕ)) → LastSome ps → Without mark ps → Text mark (join mark ps) ps
   unfolding join
-  text-open [] s w = empty
-  text-open ([] ∷ []) s w = absurd (omega (arith, s 0 refl))
-  text-open ((c ∷ p) ∷ []) s w = go (first-free (c ∷ p) [] w)
+  text_open [] s w = empty
+  text_open ([] ∷ []) s w = absurd (omega (arith, s 0 refl))
+  text_open ((c ∷ p) ∷ []) s w = go (first_free (c ∷ p) [] w)
     where
       go : Free mark (c ∷ p) → Text mark (c ∷ p) ((c ∷ p) ∷ [])
       go (more e f) = last e f
-  text-open (p ∷ q ∷ ps) s w = next (first-free p (q ∷ ps) w) (text-open (q ∷ ps) (λ i h. s (suc i) (omega arith)) (rest-free p (q ∷ ps) w))
+  text_open (p ∷ q ∷ ps) s w = next (first_free p (q ∷ ps) w) (text_open (q ∷ ps) (λ i h. s (suc i) (omega arith)) (rest_free p (q ∷ ps) w))
 
   pub joined-split : (ps : List (List ℕ)) → 1 ≤ length ps → Without mark ps → split mark ([] ∷ []) (join mark ps) ≡ ps
   unfolding join split
   joined-split [] h w = absurd (omega arith)
-  joined-split (p ∷ []) h w = go p (first-free p [] w)
+  joined-split (p ∷ []) h w = go p (first_free p [] w)
     where
       go : (p : List ℕ) → Free mark p → split mark ([] ∷ []) p ≡ p ∷ []
       go [] f = refl
       go (c ∷ p) (more e f) = split-last ([] ∷ []) (λ c. refl) c p e f
   joined-split (p ∷ q ∷ ps) h w =
-      split-next ([] ∷ []) (join mark (q ∷ ps)) (first-free p (q ∷ ps) w) ∙ ap (λ qs. p ∷ qs) (joined-split (q ∷ ps) (omega arith) (rest-free p (q ∷ ps) w))
+      split-next ([] ∷ []) (join mark (q ∷ ps)) (first_free p (q ∷ ps) w) ∙ ap (λ qs. p ∷ qs) (joined-split (q ∷ ps) (omega arith) (rest_free p (q ∷ ps) w))
 
-pub lines-of-ended : LinesOfEnded
-lines-of-ended ls h w = text-split (text-ended lf ls h w)
+pub lines_of_ended : LinesOfEnded
+lines_of_ended ls h w = text_split (text_ended lf ls h w)
 
-pub lines-of-joined : LinesOfJoined
-lines-of-joined ls s w = text-split (text-open lf ls s w)
+pub lines_of_joined : LinesOfJoined
+lines_of_joined ls s w = text_split (text_open lf ls s w)
 
-pub frames-of-joined : FramesOfJoined
-frames-of-joined fs h w = joined-split semicolon fs h w
+pub frames_of_joined : FramesOfJoined
+frames_of_joined fs h w = joined-split semicolon fs h w

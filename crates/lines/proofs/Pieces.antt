@@ -10,7 +10,7 @@ use borrow.Author.Tests.{eqb-true, eqb-false}
 use lib.Dec.{eqb}
 use lib.ListN.{length, get_or, take, drop}
 use lib.Seq.{take-append_seam, drop-append-add}
-use Rattle.lines.specs.Lines.{lf, semicolon, joined, split, lines_of, framesOf}
+use Rattle.lines.specs.Lines.{lf, semicolon, joined, split, lines_of, frames_of}
 use Rattle.lines.specs.Written.{join, Without, LastSome, start_of, Lines, Frames}
 
 some-empty : (p : List ℕ) (ps : List (List ℕ)) → LastSome (p ∷ ps) → LastSome ([] ∷ p ∷ ps)
@@ -35,27 +35,27 @@ module _ (mark : ℕ) where
   join-joined c (p ∷ []) = refl
   join-joined c (p ∷ q ∷ ps) = refl
 
-  without-joined : (c : ℕ) (ps : List (List ℕ)) → c ≢ mark → Without mark ps → Without mark (joined c ps)
-  without-joined c [] n w zero zero h g = n
-  without-joined c [] n w zero (suc j) h g = absurd (omega arith)
-  without-joined c [] n w (suc i) j h g = absurd (omega arith)
-  without-joined c (p ∷ ps) n w zero zero h g = n
-  without-joined c (p ∷ ps) n w zero (suc j) h g = w zero j h (omega arith)
-  without-joined c (p ∷ ps) n w (suc i) j h g = w (suc i) j h g
+  without_joined : (c : ℕ) (ps : List (List ℕ)) → c ≢ mark → Without mark ps → Without mark (joined c ps)
+  without_joined c [] n w zero zero h g = n
+  without_joined c [] n w zero (suc j) h g = absurd (omega arith)
+  without_joined c [] n w (suc i) j h g = absurd (omega arith)
+  without_joined c (p ∷ ps) n w zero zero h g = n
+  without_joined c (p ∷ ps) n w zero (suc j) h g = w zero j h (omega arith)
+  without_joined c (p ∷ ps) n w (suc i) j h g = w (suc i) j h g
 
-  without-empty : (ps : List (List ℕ)) → Without mark ps → Without mark ([] ∷ ps)
-  without-empty ps w zero j h g = absurd (omega arith)
-  without-empty ps w (suc i) j h g = w i j (omega arith) g
+  without_empty : (ps : List (List ℕ)) → Without mark ps → Without mark ([] ∷ ps)
+  without_empty ps w zero j h g = absurd (omega arith)
+  without_empty ps w (suc i) j h g = w i j (omega arith) g
 
   module _ (none : List (List ℕ)) where
-    split-without : Without mark none → (text : List ℕ) → Without mark (split mark none text)
+    split_without : Without mark none → (text : List ℕ) → Without mark (split mark none text)
     unfolding split
-    split-without w [] = w
-    split-without w (c ∷ text) = go (eqb c mark) (split mark none text) refl (split-without w text)
+    split_without w [] = w
+    split_without w (c ∷ text) = go (eqb c mark) (split mark none text) refl (split_without w text)
       where
         go : (b : Bool) (ps : List (List ℕ)) → eqb c mark ≡ b → Without mark ps → Without mark (cond b ([] ∷ ps) (joined c ps))
-        go true ps e r = without-empty ps r
-        go false ps e r = without-joined c ps (eqb-false _ _ e) r
+        go true ps e r = without_empty ps r
+        go false ps e r = without_joined c ps (eqb-false _ _ e) r
 
     -- only an empty text may have no piece
     split-none : (text : List ℕ) → split mark none text ≡ [] → (text ≡ []) × (none ≡ [])
@@ -90,41 +90,41 @@ module _ (mark : ℕ) where
 
 -- ---- where a piece starts
 
-pub start-from : (ps : List (List ℕ)) (at i : ℕ) → start_of at ps i ≡ at + start_of 0 ps i
+pub start_from : (ps : List (List ℕ)) (at i : ℕ) → start_of at ps i ≡ at + start_of 0 ps i
 unfolding start_of
-start-from [] at i = rw add-zero
-start-from (p ∷ ps) at zero = rw add-zero
-start-from (p ∷ ps) at (suc i) = start-from ps (at + length p + 1) i ∙ omega (arith, start-from ps (0 + length p + 1) i)
+start_from [] at i = rw add-zero
+start_from (p ∷ ps) at zero = rw add-zero
+start_from (p ∷ ps) at (suc i) = start_from ps (at + length p + 1) i ∙ omega (arith, start_from ps (0 + length p + 1) i)
 
 -- after the first piece and its mark
 start-next : (mark : ℕ) (p rest : List ℕ) (ps : List (List ℕ)) (i : ℕ) → drop (start_of 0 (p ∷ ps) (suc i)) (p ++ mark ∷ rest) ≡ drop (start_of 0 ps i) rest
 unfolding start_of
 start-next mark p rest ps i =
-    let q : start_of (0 + length p + 1) ps i ≡ length p + suc (start_of 0 ps i) = omega (arith, start-from ps (0 + length p + 1) i) in
+    let q : start_of (0 + length p + 1) ps i ≡ length p + suc (start_of 0 ps i) = omega (arith, start_from ps (0 + length p + 1) i) in
     rw q (drop-append-add p (mark ∷ rest) (suc (start_of 0 ps i)))
 
-start-at : (mark : ℕ) (tail : List ℕ) (ps : List (List ℕ)) (i : ℕ) → i < length ps
+start_at : (mark : ℕ) (tail : List ℕ) (ps : List (List ℕ)) (i : ℕ) → i < length ps
     → take (length (get_or ps i [])) (drop (start_of 0 ps i) (join mark ps ++ tail)) ≡ get_or ps i []
 unfolding join start_of
-start-at mark tail [] i h = absurd (omega arith)
-start-at mark tail (p ∷ []) zero h = take-append_seam p tail
-start-at mark tail (p ∷ []) (suc i) h = absurd (omega arith)
-start-at mark tail (p ∷ q ∷ ps) zero h = rw (append_assoc p (mark ∷ join mark (q ∷ ps)) tail) (take-append_seam p _)
-start-at mark tail (p ∷ q ∷ ps) (suc i) h =
-    rw (append_assoc p (mark ∷ join mark (q ∷ ps)) tail, start-next mark p (join mark (q ∷ ps) ++ tail) (q ∷ ps) i) (start-at mark tail (q ∷ ps) i (omega arith))
+start_at mark tail [] i h = absurd (omega arith)
+start_at mark tail (p ∷ []) zero h = take-append_seam p tail
+start_at mark tail (p ∷ []) (suc i) h = absurd (omega arith)
+start_at mark tail (p ∷ q ∷ ps) zero h = rw (append_assoc p (mark ∷ join mark (q ∷ ps)) tail) (take-append_seam p _)
+start_at mark tail (p ∷ q ∷ ps) (suc i) h =
+    rw (append_assoc p (mark ∷ join mark (q ∷ ps)) tail, start-next mark p (join mark (q ∷ ps) ++ tail) (q ∷ ps) i) (start_at mark tail (q ∷ ps) i (omega arith))
 
 pub lines : (profile : List ℕ) → Lines profile
 unfolding join
 lines profile = record {
   whole = go (split-whole lf [] refl profile);
-  without = split-without lf [] (λ i j h g. absurd (omega arith)) profile;
+  without = split_without lf [] (λ i j h g. absurd (omega arith)) profile;
   starts = λ i h. at i h (split-whole lf [] refl profile);
 }
   where
     at : (i : ℕ) → i < length (lines_of profile) → Whole lf [] (lines_of profile) profile
         → take (length (get_or (lines_of profile) i [])) (drop (start_of 0 (lines_of profile) i) profile) ≡ get_or (lines_of profile) i []
-    at i h (inl e) = rw (append-nil, e.0) at (start-at lf [] (lines_of profile) i h)
-    at i h (inr e) = rw e.1 at (start-at lf (lf ∷ []) (lines_of profile) i h)
+    at i h (inl e) = rw (append-nil, e.0) at (start_at lf [] (lines_of profile) i h)
+    at i h (inr e) = rw e.1 at (start_at lf (lf ∷ []) (lines_of profile) i h)
 
     go : Whole lf [] (lines_of profile) profile
         → ((join lf (lines_of profile) ≡ profile) × LastSome (lines_of profile)) ⊎ (join lf (lines_of profile) ++ lf ∷ [] ≡ profile) × (1 ≤ length (lines_of profile))
@@ -138,14 +138,14 @@ pub frames : (stack : List ℕ) → Frames stack
 unfolding join
 frames stack = record {
   whole = go (split-whole semicolon ([] ∷ []) refl stack);
-  some = some (framesOf stack) refl;
-  without = split-without semicolon ([] ∷ []) (without-empty semicolon [] (λ i j h g. absurd (omega arith))) stack;
+  some = some (frames_of stack) refl;
+  without = split_without semicolon ([] ∷ []) (without_empty semicolon [] (λ i j h g. absurd (omega arith))) stack;
 }
   where
-    go : Whole semicolon ([] ∷ []) (framesOf stack) stack → join semicolon (framesOf stack) ≡ stack
+    go : Whole semicolon ([] ∷ []) (frames_of stack) stack → join semicolon (frames_of stack) ≡ stack
     go (inl e) = e.0
     go (inr e) = no_pieces e.0
 
-    some : (fs : List (List ℕ)) → framesOf stack ≡ fs → 1 ≤ length fs
+    some : (fs : List (List ℕ)) → frames_of stack ≡ fs → 1 ≤ length fs
     some [] e = no_pieces (split-none semicolon ([] ∷ []) stack e).1
     some (f ∷ fs) e = omega arith

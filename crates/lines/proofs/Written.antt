@@ -14,7 +14,7 @@ use Rattle.lines.specs.declared.Count.{Count}
 use Rattle.lines.specs.declared.Count.TheVariants.{Is, Not}
 use Rattle.lines.specs.declared.Line.{Line}
 use Rattle.lines.specs.declared.Line.TheVariants.{Sound, Broken}
-use Rattle.lines.specs.Lines.{space, mostCount, lastFrom, last_of, numberFrom, limited, count_of, counted, line_of}
+use Rattle.lines.specs.Lines.{space, most_count, last_from, last_of, number_from, limited, count_of, counted, line_of}
 use Rattle.lines.specs.Written.{decimal, Writes, CountIs, IsLine, LineIs}
 
 -- ---- a count
@@ -36,19 +36,19 @@ reads_more so c s h g (Is k) r = (each, r.1)
     each zero l = (h, g)
     each (suc i) l = r.0 i (omega arith)
 
-reads : (s : List ℕ) (so : ℕ) → Reads so s (numberFrom so s)
-unfolding numberFrom decimal
+reads : (s : List ℕ) (so : ℕ) → Reads so s (number_from so s)
+unfolding number_from decimal
 reads [] so = (λ i h. absurd (omega arith), refl)
 reads (c ∷ s) so = go (leb 48 c) (leb c 57) refl refl (reads s (10 * so + (c - 48)))
   where
-    go : (a b : Bool) → leb 48 c ≡ a → leb c 57 ≡ b → Reads (10 * so + (c - 48)) s (numberFrom (10 * so + (c - 48)) s)
-        → Reads so (c ∷ s) (cond (a && b) (numberFrom (10 * so + (c - 48)) s) Not)
-    go true true p q r = reads_more so c s (leb-true _ _ p) (leb-true _ _ q) (numberFrom (10 * so + (c - 48)) s) r
+    go : (a b : Bool) → leb 48 c ≡ a → leb c 57 ≡ b → Reads (10 * so + (c - 48)) s (number_from (10 * so + (c - 48)) s)
+        → Reads so (c ∷ s) (cond (a && b) (number_from (10 * so + (c - 48)) s) Not)
+    go true true p q r = reads_more so c s (leb-true _ _ p) (leb-true _ _ q) (number_from (10 * so + (c - 48)) s) r
     go true false p q r = tt
     go false b p q r = tt
 
-number_is : (s : List ℕ) (so : ℕ) → Digits s → numberFrom so s ≡ Is (decimal so s)
-unfolding numberFrom decimal
+number_is : (s : List ℕ) (so : ℕ) → Digits s → number_from so s ≡ Is (decimal so s)
+unfolding number_from decimal
 number_is [] so d = refl
 number_is (c ∷ s) so d =
     let h = d 0 (omega arith) in
@@ -76,44 +76,44 @@ abbrev Tells : List ℕ → Count → Type 0
 Tells s (Is k) = Writes s k
 Tells s Not = Unit {0}
 
-limited-tells : (s : List ℕ) → 1 ≤ length s → length s ≤ 10 → get_or s 0 0 ≢ 48 → (k : Count) → Reads 0 s k → Tells s (limited k)
-limited-tells s h g n Not r = tt
-limited-tells s h g n (Is k) r = go (ltb mostCount k) refl
+limited_tells : (s : List ℕ) → 1 ≤ length s → length s ≤ 10 → get_or s 0 0 ≢ 48 → (k : Count) → Reads 0 s k → Tells s (limited k)
+limited_tells s h g n Not r = tt
+limited_tells s h g n (Is k) r = go (ltb most_count k) refl
   where
-    go : (b : Bool) → ltb mostCount k ≡ b → Tells s (cond b Not (Is k))
+    go : (b : Bool) → ltb most_count k ≡ b → Tells s (cond b Not (Is k))
     go true e = tt
     go false e = record { some = h; most = g; each = r.0; lead = λ z. absurd (n z); value = r.1; small = ltb-false _ _ e }
 
-count-tells : (s : List ℕ) → Tells s (count_of s)
+count_tells : (s : List ℕ) → Tells s (count_of s)
 unfolding count_of
-count-tells s = go (eqb (length s) 0) (ltb 10 (length s)) (eqb (get_or s 0 0) 48) (eqb (length s) 1) refl refl refl refl
+count_tells s = go (eqb (length s) 0) (ltb 10 (length s)) (eqb (get_or s 0 0) 48) (eqb (length s) 1) refl refl refl refl
   where
     go : (a b d e : Bool) → eqb (length s) 0 ≡ a → ltb 10 (length s) ≡ b → eqb (get_or s 0 0) 48 ≡ d → eqb (length s) 1 ≡ e
-        → Tells s (cond a Not (cond b Not (cond d (cond e (Is 0) Not) (limited (numberFrom 0 s)))))
+        → Tells s (cond a Not (cond b Not (cond d (cond e (Is 0) Not) (limited (number_from 0 s)))))
     go true b d e p q u v = tt
     go false true d e p q u v = tt
     go false false true true p q u v = lone-zero s (eqb-true _ _ v) (eqb-true _ _ u)
     go false false true false p q u v = tt
     go false false false e p q u v =
         let n : length s ≢ 0 = eqb-false _ _ p in
-        limited-tells s (omega arith) (ltb-false _ _ q) (eqb-false _ _ u) (numberFrom 0 s) (reads s 0)
+        limited_tells s (omega arith) (ltb-false _ _ q) (eqb-false _ _ u) (number_from 0 s) (reads s 0)
 
-count-from : (s : List ℕ) (k : ℕ) → Writes s k → count_of s ≡ Is k
+count_from : (s : List ℕ) (k : ℕ) → Writes s k → count_of s ≡ Is k
 unfolding count_of
-count-from s k w =
+count_from s k w =
     let a = ne_eqb (length s) 0 (λ z. omega (arith, w.some)) in
     let b = le-ltb 10 (length s) w.most in
     rw (a, b) (go (eqb (get_or s 0 0) 48) refl)
   where
-    go : (d : Bool) → eqb (get_or s 0 0) 48 ≡ d → cond d (cond (eqb (length s) 1) (Is 0) Not) (limited (numberFrom 0 s)) ≡ Is k
+    go : (d : Bool) → eqb (get_or s 0 0) 48 ≡ d → cond d (cond (eqb (length s) 1) (Is 0) Not) (limited (number_from 0 s)) ≡ Is k
     go true e =
         let z = eqb-true _ _ e in
         let l = w.lead z in
         rw (eq-eqb _ _ l) (ap Is (sym (lone-zero s l z).value ∙ w.value))
     go false e = rw (number_is s 0 w.each, w.value, le-ltb _ _ w.small)
 
-pub count-is : CountIs
-count-is s k = (λ e. rw e at (count-tells s), count-from s k)
+pub count_is : CountIs
+count_is s k = (λ e. rw e at (count_tells s), count_from s k)
 
 -- ---- a line
 
@@ -122,42 +122,42 @@ module _ (mark : ℕ) where
   abbrev Here : ℕ → ℕ → List ℕ → ℕ → Type 0
   Here at last s l = (l ≡ last) ⊎ ((i : ℕ) × (i < length s) × (l ≡ at + i) × (get_or s i 0 ≡ mark))
 
-  here-more : (c at last l : ℕ) (s : List ℕ) (b : Bool) → eqb c mark ≡ b → Here (at + 1) (cond b at last) s l → Here at last (c ∷ s) l
-  here-more c at last l s true e (inl h) = inr (0, omega arith, omega arith, eqb-true _ _ e)
-  here-more c at last l s false e (inl h) = inl h
-  here-more c at last l s b e (inr h) = inr (suc h.0, omega (arith, h.1), omega (arith, h.2), h.3)
+  here_more : (c at last l : ℕ) (s : List ℕ) (b : Bool) → eqb c mark ≡ b → Here (at + 1) (cond b at last) s l → Here at last (c ∷ s) l
+  here_more c at last l s true e (inl h) = inr (0, omega arith, omega arith, eqb-true _ _ e)
+  here_more c at last l s false e (inl h) = inl h
+  here_more c at last l s b e (inr h) = inr (suc h.0, omega (arith, h.1), omega (arith, h.2), h.3)
 
-  last-here : (s : List ℕ) (at last : ℕ) → Here at last s (lastFrom mark at last s)
-  unfolding lastFrom
-  last-here [] at last = inl refl
-  last-here (c ∷ s) at last = here-more c at last (lastFrom mark at last (c ∷ s)) s (eqb c mark) refl (last-here s (at + 1) (cond (eqb c mark) at last))
+  last_here : (s : List ℕ) (at last : ℕ) → Here at last s (last_from mark at last s)
+  unfolding last_from
+  last_here [] at last = inl refl
+  last_here (c ∷ s) at last = here_more c at last (last_from mark at last (c ∷ s)) s (eqb c mark) refl (last_here s (at + 1) (cond (eqb c mark) at last))
 
-  last_none : (s : List ℕ) (at last : ℕ) → ((i : ℕ) → i < length s → get_or s i 0 ≢ mark) → lastFrom mark at last s ≡ last
-  unfolding lastFrom
+  last_none : (s : List ℕ) (at last : ℕ) → ((i : ℕ) → i < length s → get_or s i 0 ≢ mark) → last_from mark at last s ≡ last
+  unfolding last_from
   last_none [] at last n = refl
   last_none (c ∷ s) at last n = rw (ne_eqb c mark (n 0 (omega arith))) (last_none s (at + 1) last (λ i h. n (suc i) (omega arith)))
 
   -- it stands where no mark comes after it
-  last-seam : (p s : List ℕ) (at last : ℕ) → ((i : ℕ) → i < length s → get_or s i 0 ≢ mark) → lastFrom mark at last (p ++ mark ∷ s) ≡ at + length p
-  unfolding lastFrom
-  last-seam [] s at last n = ap (λ b. lastFrom mark (at + 1) (cond b at last) s) (eq-eqb mark mark refl) ∙ last_none s (at + 1) at n ∙ omega arith
-  last-seam (c ∷ p) s at last n = last-seam p s (at + 1) (cond (eqb c mark) at last) n ∙ omega arith
+  last_seam : (p s : List ℕ) (at last : ℕ) → ((i : ℕ) → i < length s → get_or s i 0 ≢ mark) → last_from mark at last (p ++ mark ∷ s) ≡ at + length p
+  unfolding last_from
+  last_seam [] s at last n = ap (λ b. last_from mark (at + 1) (cond b at last) s) (eq-eqb mark mark refl) ∙ last_none s (at + 1) at n ∙ omega arith
+  last_seam (c ∷ p) s at last n = last_seam p s (at + 1) (cond (eqb c mark) at last) n ∙ omega arith
 
 -- what a line tells
 abbrev pub LineTells : List ℕ → Line → Type 0
 LineTells line (Sound n k) = (stack digits : List ℕ) × IsLine line stack digits k × (length stack ≡ n)
 LineTells line Broken = Unit {0}
 
-counted-tells : (line : List ℕ) (n : ℕ) → 1 ≤ n → n < length line → get_or line n 0 ≡ space → (k : Count) → Tells (drop (n + 1) line) k
+counted_tells : (line : List ℕ) (n : ℕ) → 1 ≤ n → n < length line → get_or line n 0 ≡ space → (k : Count) → Tells (drop (n + 1) line) k
     → LineTells line (counted n k)
-counted-tells line n h l e Not w = tt
-counted-tells line n h l e (Is k) w =
+counted_tells line n h l e Not w = tt
+counted_tells line n h l e (Is k) w =
     let t = length-take-le n line (omega arith) in
     (take n line, drop (n + 1) line, record { whole = rw add-one (rw e at (split_at line n 0 l)); some = omega arith; count = w }, t)
 
-pub line-tells : (line : List ℕ) → LineTells line (line_of line)
+pub line_tells : (line : List ℕ) → LineTells line (line_of line)
 unfolding line_of
-line-tells line = go (eqb (last_of space line) 0) (eqb (last_of space line) (length line)) refl refl (last-here space line 0 (length line))
+line_tells line = go (eqb (last_of space line) 0) (eqb (last_of space line) (length line)) refl refl (last_here space line 0 (length line))
   where
     go : (a b : Bool) → eqb (last_of space line) 0 ≡ a → eqb (last_of space line) (length line) ≡ b → Here space 0 (length line) line (last_of space line)
         → LineTells line (cond a Broken (cond b Broken (counted (last_of space line) (count_of (drop (last_of space line + 1) line)))))
@@ -167,24 +167,24 @@ line-tells line = go (eqb (last_of space line) 0) (eqb (last_of space line) (len
     go false false p q (inr h) =
         let z : last_of space line ≢ 0 = eqb-false _ _ p in
         let e : last_of space line ≡ h.0 = omega (arith, h.2) in
-        counted-tells line (last_of space line) (omega arith) (omega (arith, h.1)) (rw e h.3) (count_of (drop (last_of space line + 1) line))
-        (count-tells (drop (last_of space line + 1) line))
+        counted_tells line (last_of space line) (omega arith) (omega (arith, h.1)) (rw e h.3) (count_of (drop (last_of space line + 1) line))
+        (count_tells (drop (last_of space line + 1) line))
 
 -- no digit is a space
-line-last : (stack digits : List ℕ) (k last : ℕ) → Writes digits k → lastFrom space 0 last (stack ++ space ∷ digits) ≡ length stack
-line-last stack digits k last w = last-seam space stack digits 0 last (λ i h z. omega (arith, w.each i h)) ∙ omega arith
+line_last : (stack digits : List ℕ) (k last : ℕ) → Writes digits k → last_from space 0 last (stack ++ space ∷ digits) ≡ length stack
+line_last stack digits k last w = last_seam space stack digits 0 last (λ i h z. omega (arith, w.each i h)) ∙ omega arith
 
-line-from : (stack digits : List ℕ) (k : ℕ) → 1 ≤ length stack → Writes digits k → line_of (stack ++ space ∷ digits) ≡ Sound (length stack) k
+line_from : (stack digits : List ℕ) (k : ℕ) → 1 ≤ length stack → Writes digits k → line_of (stack ++ space ∷ digits) ≡ Sound (length stack) k
 unfolding line_of
-line-from stack digits k h w =
+line_from stack digits k h w =
     let n = length-append stack (space ∷ digits) in
     rw (
-      line-last stack digits k (length (stack ++ space ∷ digits)) w,
+      line_last stack digits k (length (stack ++ space ∷ digits)) w,
       ne_eqb (length stack) 0 (λ z. omega arith),
       ne_eqb (length stack) (length (stack ++ space ∷ digits)) (λ z. omega arith),
       drop-append-add stack (space ∷ digits) 1,
-      count-from digits k w,
+      count_from digits k w,
     )
 
-pub line-is-written : LineIs
-line-is-written line n k = (λ e. rw e at (line-tells line), λ s. rw (s.2.whole, ← s.3) (line-from s.0 s.1 k s.2.some s.2.count))
+pub line_is_written : LineIs
+line_is_written line n k = (λ e. rw e at (line_tells line), λ s. rw (s.2.whole, ← s.3) (line_from s.0 s.1 k s.2.some s.2.count))

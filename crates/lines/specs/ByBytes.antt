@@ -3,8 +3,8 @@ use Rattle.std.specs.Prelude.{[], ◌∷◌, ◌≡◌}
 use Rattle.lines.specs.declared.Count.TheVariants.{Is, Not}
 use Rattle.lines.specs.declared.Line.TheVariants.{Sound, Broken}
 use Rattle.lines.specs.declared.Pass.TheVariants.{Through, Ends}
-use Rattle.lines.specs.Lines.{lines_of, framesOf, count_of, line_of, checkOf}
-use Rattle.lines.specs.Profile.{framesIn, counts}
+use Rattle.lines.specs.Lines.{lines_of, frames_of, count_of, line_of, check_of}
+use Rattle.lines.specs.Profile.{frames_in, counts}
 
 pub record LinesByBytes : Type 0 where
   -- an empty profile has no lines
@@ -18,14 +18,14 @@ pub record LinesByBytes : Type 0 where
   pub others : lines_of (9 ∷ 11 ∷ 13 ∷ []) ≡ (9 ∷ 11 ∷ 13 ∷ []) ∷ []
 
 pub record FramesByBytes : Type 0 where
-  pub two : framesOf (97 ∷ 59 ∷ 98 ∷ []) ≡ (97 ∷ []) ∷ (98 ∷ []) ∷ []
+  pub two : frames_of (97 ∷ 59 ∷ 98 ∷ []) ≡ (97 ∷ []) ∷ (98 ∷ []) ∷ []
   -- a frame may be empty, the last too
-  pub last : framesOf (97 ∷ 59 ∷ []) ≡ (97 ∷ []) ∷ [] ∷ []
-  pub empty : framesOf (59 ∷ 59 ∷ []) ≡ [] ∷ [] ∷ [] ∷ []
+  pub last : frames_of (97 ∷ 59 ∷ []) ≡ (97 ∷ []) ∷ [] ∷ []
+  pub empty : frames_of (59 ∷ 59 ∷ []) ≡ [] ∷ [] ∷ [] ∷ []
   -- neither `:` nor `<` stands between frames
-  pub others : framesOf (58 ∷ 60 ∷ []) ≡ (58 ∷ 60 ∷ []) ∷ []
+  pub others : frames_of (58 ∷ 60 ∷ []) ≡ (58 ∷ 60 ∷ []) ∷ []
   -- `a;b 3`: the count is in no frame
-  pub line : framesIn (97 ∷ 59 ∷ 98 ∷ 32 ∷ 51 ∷ []) ≡ (97 ∷ []) ∷ (98 ∷ []) ∷ []
+  pub line : frames_in (97 ∷ 59 ∷ 98 ∷ 32 ∷ 51 ∷ []) ≡ (97 ∷ []) ∷ (98 ∷ []) ∷ []
 
 pub record CountsByBytes : Type 0 where
   pub none : count_of [] ≡ Not
@@ -55,23 +55,23 @@ pub record LineByBytes : Type 0 where
   pub spaces : line_of (32 ∷ 32 ∷ 49 ∷ []) ≡ Sound 1 1
   -- no byte, no space, no count, no stack
   pub none : line_of [] ≡ Broken
-  pub noSpace : line_of (97 ∷ 49 ∷ []) ≡ Broken
-  pub noCount : line_of (97 ∷ 32 ∷ []) ≡ Broken
-  pub noStack : line_of (32 ∷ 49 ∷ []) ≡ Broken
+  pub no_space : line_of (97 ∷ 49 ∷ []) ≡ Broken
+  pub no_count : line_of (97 ∷ 32 ∷ []) ≡ Broken
+  pub no_stack : line_of (32 ∷ 49 ∷ []) ≡ Broken
   -- the bytes beside a space, and a tab, are none
   pub others : line_of (97 ∷ 9 ∷ 31 ∷ 33 ∷ 49 ∷ []) ≡ Broken
   -- a CR at a line's end
   pub cr : line_of (97 ∷ 32 ∷ 49 ∷ 13 ∷ []) ≡ Broken
 
 pub record CheckByBytes : Type 0 where
-  pub none : checkOf [] ≡ Through
+  pub none : check_of [] ≡ Through
   -- `a 1`, `b 2`, with and without the last LF
-  pub ended : checkOf (97 ∷ 32 ∷ 49 ∷ 10 ∷ 98 ∷ 32 ∷ 50 ∷ 10 ∷ []) ≡ Through
-  pub unended : checkOf (97 ∷ 32 ∷ 49 ∷ 10 ∷ 98 ∷ 32 ∷ 50 ∷ []) ≡ Through
+  pub ended : check_of (97 ∷ 32 ∷ 49 ∷ 10 ∷ 98 ∷ 32 ∷ 50 ∷ 10 ∷ []) ≡ Through
+  pub unended : check_of (97 ∷ 32 ∷ 49 ∷ 10 ∷ 98 ∷ 32 ∷ 50 ∷ []) ≡ Through
   -- `a 1`, `b`, `c`: the first of two, where it starts
-  pub first : checkOf (97 ∷ 32 ∷ 49 ∷ 10 ∷ 98 ∷ 10 ∷ 99 ∷ 10 ∷ []) ≡ Ends 4
+  pub first : check_of (97 ∷ 32 ∷ 49 ∷ 10 ∷ 98 ∷ 10 ∷ 99 ∷ 10 ∷ []) ≡ Ends 4
   -- an empty line, `a 1` and a second LF
-  pub empty : checkOf (97 ∷ 32 ∷ 49 ∷ 10 ∷ 10 ∷ []) ≡ Ends 4
+  pub empty : check_of (97 ∷ 32 ∷ 49 ∷ 10 ∷ 10 ∷ []) ≡ Ends 4
 
 -- all of them
 pub record ByBytes : Type 0 where

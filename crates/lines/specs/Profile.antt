@@ -1,9 +1,9 @@
 -- What is said of a profile's lines: all sound, or which is the first that is not; their frames, and their counts added up. Assumes nothing.
 use Rattle.std.specs.Prelude.{List, [], ◌≢◌, ◌≡◌, ℕ, ◌^◌, ◌≤◌, ◌<◌, length, get_or, take}
-use Rattle.sets.specs.Sums.{sumOver}
-use Rattle.book.specs.Limits.{mostBytes}
+use Rattle.sets.specs.Sums.{sum_over}
+use Rattle.book.specs.Limits.{most_bytes}
 use Rattle.lines.specs.declared.Line.TheVariants.{Broken}
-use Rattle.lines.specs.Lines.{lines_of, framesOf, line_of, onLine}
+use Rattle.lines.specs.Lines.{lines_of, frames_of, line_of, on_line}
 
 -- the lines are all sound
 abbrev pub AllSound : List (List ℕ) → Type 0
@@ -16,21 +16,21 @@ pub record FirstBroken (ls : List (List ℕ)) (i : ℕ) : Type 0 where
   pub before : (j : ℕ) → j < i → line_of (get_or ls j []) ≢ Broken
 
 -- the frames of a line that is sound
-abbrev pub framesIn : List ℕ → List (List ℕ)
-framesIn line = onLine (line_of line) (λ stack count. framesOf (take stack line)) []
+abbrev pub frames_in : List ℕ → List (List ℕ)
+frames_in line = on_line (line_of line) (λ stack count. frames_of (take stack line)) []
 
 -- a line's count; one that breaks the rules has none to count
-abbrev pub countIn : List ℕ → ℕ
-countIn line = onLine (line_of line) (λ stack count. count) 0
+abbrev pub count_in : List ℕ → ℕ
+count_in line = on_line (line_of line) (λ stack count. count) 0
 
 -- frame j of line i
 abbrev pub frame_at : List ℕ → ℕ → ℕ → List ℕ
-frame_at profile i j = get_or (framesIn (get_or (lines_of profile) i [])) j []
+frame_at profile i j = get_or (frames_in (get_or (lines_of profile) i [])) j []
 
 -- The total of the counts of a profile's lines.
 abbrev pub counts : List ℕ → ℕ
-counts profile = sumOver countIn (lines_of profile)
+counts profile = sum_over count_in (lines_of profile)
 
 -- It passes 64 bits in no profile that is not too long.
 abbrev pub CountsFit : Type 0
-CountsFit = (profile : List ℕ) → length profile ≤ mostBytes → counts profile < 2 ^ 64
+CountsFit = (profile : List ℕ) → length profile ≤ most_bytes → counts profile < 2 ^ 64

@@ -2,7 +2,7 @@
 use Rattle.std.specs.Prelude.{List, [], ◌∷◌, ◌++◌, ◌⊎◌, ◌↔◌, ◌≢◌, ◌≡◌, ℕ, zero, suc, ◌+◌, ◌-◌, ◌*◌, ◌≤◌, ◌<◌, length, get_or, take, drop}
 use Rattle.lines.specs.declared.Count.TheVariants.{Is}
 use Rattle.lines.specs.declared.Line.TheVariants.{Sound}
-use Rattle.lines.specs.Lines.{lf, space, semicolon, mostCount, lines_of, framesOf, count_of, line_of}
+use Rattle.lines.specs.Lines.{lf, space, semicolon, most_count, lines_of, frames_of, count_of, line_of}
 
 -- ---- pieces
 
@@ -36,9 +36,9 @@ pub record Lines (profile : List ℕ) : Type 0 where
 
 -- The frames of a stack are without `;`, at least one, and with `;` between each two they are the stack.
 pub record Frames (stack : List ℕ) : Type 0 where
-  pub whole : join semicolon (framesOf stack) ≡ stack
-  pub some : 1 ≤ length (framesOf stack)
-  pub without : Without semicolon (framesOf stack)
+  pub whole : join semicolon (frames_of stack) ≡ stack
+  pub some : 1 ≤ length (frames_of stack)
+  pub without : Without semicolon (frames_of stack)
 
 -- ---- pieces joined and split again
 
@@ -52,7 +52,7 @@ LinesOfJoined = (ls : List (List ℕ)) → LastSome ls → Without lf ls → lin
 
 -- Likewise the frames of joined frames, where none has a `;` in it.
 abbrev pub FramesOfJoined : Type 0
-FramesOfJoined = (fs : List (List ℕ)) → 1 ≤ length fs → Without semicolon fs → framesOf (join semicolon fs) ≡ fs
+FramesOfJoined = (fs : List (List ℕ)) → 1 ≤ length fs → Without semicolon fs → frames_of (join semicolon fs) ≡ fs
 
 -- ---- a count
 
@@ -68,7 +68,7 @@ pub record Writes (digits : List ℕ) (k : ℕ) : Type 0 where
   pub each : (i : ℕ) → i < length digits → (48 ≤ get_or digits i 0) × (get_or digits i 0 ≤ 57)
   pub lead : get_or digits 0 0 ≡ 48 → length digits ≡ 1
   pub value : decimal 0 digits ≡ k
-  pub small : k ≤ mostCount
+  pub small : k ≤ most_count
 
 abbrev pub CountIs : Type 0
 CountIs = (s : List ℕ) (k : ℕ) → (count_of s ≡ Is k) ↔ Writes s k

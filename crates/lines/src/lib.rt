@@ -1,7 +1,8 @@
 // The lines of a folded profile: where a line ends, its stack and its count, and the first line that breaks the rules.
+#![tactic(auto)]
+
 ghost use Rattle.std.specs.Prelude.{◌≡◌, ◌+◌, ◌-◌, ◌≤◌, ◌<◌, length};
-ghost use Rattle.moments.specs.Moments.{was};
-ghost use Rattle.lines.specs.Lines.{markFrom, last_of, count_of, line_of, checkOf};
+ghost use Rattle.lines.specs.Lines.{mark_from, last_of, count_of, line_of, check_of};
 
 // LF ends a line, a space stands in front of a count, `;` stands between frames.
 pub const LF: u8 = 10;
@@ -36,7 +37,7 @@ pub enum Pass {
 
 // The place of the first `mark` from `from` on, or the length; `from` itself where that is past the end.
 pub fn find(text: &[u8], from: usize, mark: u8) -> usize
-    ensures { (result ≡ markFrom mark from (was text)) × (result ≤ from + (length (was text) - from)) }
+    ensures { (result ≡ mark_from mark from text.now) × (result ≤ from + (length text.now - from)) }
 {
     let mut at = from;
     while at < text.len() {
@@ -50,7 +51,7 @@ pub fn find(text: &[u8], from: usize, mark: u8) -> usize
 
 // The place of the last `mark`, or the length.
 pub fn find_last(text: &[u8], mark: u8) -> usize
-    ensures { (result ≡ last_of mark (was text)) × (result ≤ length (was text)) }
+    ensures { (result ≡ last_of mark text.now) × (result ≤ length text.now) }
 {
     let mut last = text.len();
     let mut at = 0;
@@ -72,7 +73,7 @@ fn digit(byte: u8) -> u64
 
 // Reads a count: `0`, or 1 to 10 digits without a leading zero, at most MOST_COUNT.
 pub fn read_count(digits: &[u8]) -> Count
-    ensures { result ≡ count_of (was digits) }
+    ensures { result ≡ count_of digits.now }
 {
     if digits.len() == 0 {
         return Count::Not;
@@ -109,7 +110,7 @@ pub fn read_count(digits: &[u8]) -> Count
 
 // Reads a line: the stack is all in front of its last space, the count all behind.
 pub fn read_line(line: &[u8]) -> Line
-    ensures { result ≡ line_of (was line) }
+    ensures { result ≡ line_of line.now }
 {
     let space = find_last(line, SPACE);
     if space == 0 {
@@ -129,7 +130,7 @@ pub fn read_line(line: &[u8]) -> Line
 
 // The first pass: ends at the first line that breaks the rules.
 pub fn check(profile: &[u8]) -> Pass
-    ensures { result ≡ checkOf (was profile) }
+    ensures { result ≡ check_of profile.now }
 {
     let mut at = 0;
     while at < profile.len() {

@@ -11,12 +11,12 @@ use lib.ListN.{length, get_or, length-reverse}
 use borrow.Author.Tests.{lt-ltb, le-ltb}
 use Rattle.meaning.specs.Rules.{Rules}
 use Rattle.meaning.specs.Standing.{held}
-use Rattle.meaning.specs.Falls.{fallsIn}
-use Rattle.meaning.specs.Tables.{noEntry}
+use Rattle.meaning.specs.Falls.{falls_in}
+use Rattle.meaning.specs.Tables.{no_entry}
 use Rattle.meaning.specs.Occurrences.{Occurs}
-use Rattle.meaning.proofs.Falls.{fallsIn-le}
-use Rattle.meaning.proofs.Looks.{row-held, row_first, row_out}
-use Rattle.book.specs.Limits.{mostRules, mostBytes}
+use Rattle.meaning.proofs.Falls.{falls_in-le}
+use Rattle.meaning.proofs.Looks.{row_held, row_first, row_out}
+use Rattle.book.specs.Limits.{most_rules, most_bytes}
 use Rattle.lent.specs.Lent.{lent}
 use Rattle.walk.specs.declared.Counted.{Counted}
 use Rattle.walk.specs.declared.Counted.TheVariants.{Read, Stopped}
@@ -24,28 +24,28 @@ use Rattle.answers.specs.declared.Walked.{Walked}
 use Rattle.answers.specs.declared.Walked.TheVariants.{Accepted, TooLong, BadRows, Damaged, NoRoom}
 use Rattle.answers.specs.Walked.{number_of}
 use Rattle.one_byte.specs.Move.{Lent}
-use Rattle.walk.specs.Walk.{run_of, reportsOf, answer_of, written, bufferOf}
-use Rattle.listed.specs.Demands.{WalkCall, walkAnswer, reportsAfter, WalkAnswers, WalkRefusals, WalkRefuses, Moves, OverTables, Demand2, Demand3, Matches}
+use Rattle.walk.specs.Walk.{run_of, reports_of, answer_of_lem, written, buffer_of}
+use Rattle.listed.specs.Demands.{WalkCall, walk_answer, reports_after, WalkAnswers, WalkRefusals, WalkRefuses, Moves, OverTables, Demand2, Demand3, Matches}
 use Rattle.lent.proofs.HasRows.{rows-lent, no_rows, few-lent}
 use Rattle.one_byte.proofs.Laws.{move-lent}
 use Rattle.walk.proofs.Laws.{counted, walked}
-use Rattle.meaning.proofs.Lists.{lists-append}
+use Rattle.meaning.proofs.Lists.{lists_append}
 use Rattle.meaning.proofs.Occurrences.{occurrences, All, all-occurrences}
 use Rattle.listed.proofs.Longest.{held-longest}
-use Rattle.listed.proofs.Moves.{one-a-byte}
-use Rattle.listed.proofs.Follow.{at-below, move, Followed, follow}
+use Rattle.listed.proofs.Moves.{one_a_byte}
+use Rattle.listed.proofs.Follow.{at_below, move, Followed, follow}
 
 -- ---- over any tables
 
 -- the ways of an answer
-untouched : (a : Walked) (reports old : List ℕ) → number_of a ≢ 0 → bufferOf a reports old ≡ old
+untouched : (a : Walked) (reports old : List ℕ) → number_of a ≢ 0 → buffer_of a reports old ≡ old
 untouched (Accepted made falls held) reports old ne = absurd (ne refl)
 untouched TooLong reports old ne = refl
 untouched (BadRows n) reports old ne = refl
 untouched (Damaged at) reports old ne = refl
 untouched (NoRoom made) reports old ne = refl
 
-no_start : (held : List ℕ) (room : ℕ) (q : Counted) → (number_of (answer_of held room q) ≢ 11) × (number_of (answer_of held room q) ≢ 12)
+no_start : (held : List ℕ) (room : ℕ) (q : Counted) → (number_of (answer_of_lem held room q) ≢ 11) × (number_of (answer_of_lem held room q) ≢ 12)
 no_start held room (Read made falls row) = go (ltb room made)
   where
     go : (b : Bool) → let a = cond b (NoRoom made) (Accepted made falls (get_or held row 0)) in (number_of a ≢ 11) × (number_of a ≢ 12)
@@ -54,19 +54,19 @@ no_start held room (Read made falls row) = go (ltb room made)
 no_start held room (Stopped at) = (λ z. omega arith, λ z. omega arith)
 
 module _ (w : WalkCall) where
-  none_lent : length w.text ≤ mostBytes → (w.n ≡ 0) ⊎ (lent w.tables < w.n) → walkAnswer w ≡ BadRows w.n
-  none_lent short (inl q) = rw (le-ltb mostBytes (length w.text) short, no_rows w.tables w.n q)
+  none_lent : length w.text ≤ most_bytes → (w.n ≡ 0) ⊎ (lent w.tables < w.n) → walk_answer w ≡ BadRows w.n
+  none_lent short (inl q) = rw (le-ltb most_bytes (length w.text) short, no_rows w.tables w.n q)
   none_lent short (inr l) =
       let ne : w.n ≢ 0 = omega arith in
-      rw (le-ltb mostBytes (length w.text) short, few-lent w.tables w.n ne l)
+      rw (le-ltb most_bytes (length w.text) short, few-lent w.tables w.n ne l)
 
   refusals : WalkRefusals w
   refusals = record {
-    too_long = λ l. let e : walkAnswer w ≡ TooLong = rw (lt-ltb mostBytes (length w.text) l) in record { number_is = rw e; values-are = rw e };
-    bad-rows = λ short h. let e = none_lent short h in record { number_is = rw e; values-are = rw e };
+    too_long_lem = λ l. let e : walk_answer w ≡ TooLong = rw (lt-ltb most_bytes (length w.text) l) in record { number_is = rw e; values_are = rw e };
+    bad_rows_lem = λ short h. let e = none_lent short h in record { number_is = rw e; values_are = rw e };
     run = λ short ne lends.
         rw (← walked w.tables w.n w.text (length w.reports) short (rows-lent w.tables w.n ne lends) refl refl) (no_start w.tables.held (length w.reports / 2) (run_of w.tables.goto w.tables.fall w.tables.out w.n w.text));
-    untouched = untouched (walkAnswer w) (reportsOf w.tables.goto w.tables.fall w.tables.out w.n w.text) w.reports;
+    untouched = untouched (walk_answer w) (reports_of w.tables.goto w.tables.fall w.tables.out w.n w.text) w.reports;
   }
 
 pub refuses : WalkRefuses
@@ -76,19 +76,19 @@ refuses w = refusals w
 
 pub moves : Moves
 moves r b n tables lends t i c x byte =
-    let few : n ≤ noEntry = omega arith in
+    let few : n ≤ no_entry = omega arith in
     let enough : Lent b.goto b.fall n = record { few = omega arith; entries = omega arith; falls = omega arith } in
     let (e, m, y) = move tables few c x byte in
-    (e, move-lent b.goto b.fall n i c enough (at-below tables few x) ∙ m, row_out tables {e = e} y, y)
+    (e, move-lent b.goto b.fall n i c enough (at_below tables few x) ∙ m, row_out tables {e = e} y, y)
 
 -- ---- the run
 
 -- the occurrences that a call is about, and the fallbacks and the held length of its text
-abbrev pub found : {r : Rules} {w : WalkCall} → OverTables r w → All (Occurs r w.text) (occurrences mostRules r w.text)
+abbrev pub found : {r : Rules} {w : WalkCall} → OverTables r w → All (Occurs r w.text) (occurrences most_rules r w.text)
 found {r} {w} over = all-occurrences r over.few w.text
 
 abbrev fallbacks : Rules → WalkCall → ℕ
-fallbacks r w = fallsIn r (reverse w.text)
+fallbacks r w = falls_in r (reverse w.text)
 
 abbrev holding : Rules → WalkCall → ℕ
 holding r w = held r (reverse w.text)
@@ -97,17 +97,17 @@ holding r w = held r (reverse w.text)
 record Run (r : Rules) (w : WalkCall) (m : ℕ) : Type 0 where
   last : ℕ
   run : run_of w.tables.goto w.tables.fall w.tables.out w.n w.text ≡ Read m (fallbacks r w) last
-  reports : reportsOf w.tables.goto w.tables.fall w.tables.out w.n w.text ≡ occurrences mostRules r w.text
+  reports : reports_of w.tables.goto w.tables.fall w.tables.out w.n w.text ≡ occurrences most_rules r w.text
   holds : get_or w.tables.held last 0 ≡ holding r w
 
 over-some : {r : Rules} {w : WalkCall} → OverTables r w → 0 < w.n
 over-some over = omega (arith, (row_first over.tables).below, over.tables.count)
 
-over-ne : {r : Rules} {w : WalkCall} → OverTables r w → w.n ≢ 0
-over-ne over = omega (arith, over-some over)
+over_ne : {r : Rules} {w : WalkCall} → OverTables r w → w.n ≢ 0
+over_ne over = omega (arith, over-some over)
 
-runs : {r : Rules} {w : WalkCall} (over : OverTables r w) → w.n ≤ noEntry → Run r w (found over).m
-unfolding fallsIn
+runs : {r : Rules} {w : WalkCall} (over : OverTables r w) → w.n ≤ no_entry → Run r w (found over).m
+unfolding falls_in
 runs {r} {w} over rows = go (follow over.tables rows w.text over.bytes 0 (row_first over.tables))
   where
     go : Followed over.tables rows 0 [] 0 w.text → Run r w (found over).m
@@ -115,80 +115,80 @@ runs {r} {w} over rows = go (follow over.tables rows w.text over.bytes 0 (row_fi
         let (made, e) = x.run 0 in
         let (_, long) = counted w.tables.goto w.tables.fall w.tables.out w.n w.text (over-some over) refl e in
         let q : made ≡ (found over).m = omega (arith, ap length x.reports, (found over).long) in
-        record { last = x.last; run = e ∙ rw q; reports = x.reports; holds = row-held over.tables x.row }
+        record { last = x.last; run = e ∙ rw q; reports = x.reports; holds = row_held over.tables x.row }
 
 -- ---- the four ways of a walk
 
 data Way (r : Rules) (w : WalkCall) (m : ℕ) : Type 0 where
-  too_long : mostBytes < length w.text → walkAnswer w ≡ TooLong → Way r w m
-  bad-rows : lent w.tables < w.n → walkAnswer w ≡ BadRows w.n → Way r w m
-  no_room : Run r w m → length w.reports / 2 < m → walkAnswer w ≡ NoRoom m → Way r w m
-  accepted : Run r w m → m ≤ length w.reports / 2 → walkAnswer w ≡ Accepted m (fallbacks r w) (holding r w) → Way r w m
+  too_long_lem : most_bytes < length w.text → walk_answer w ≡ TooLong → Way r w m
+  bad_rows_lem : lent w.tables < w.n → walk_answer w ≡ BadRows w.n → Way r w m
+  no_room_lem : Run r w m → length w.reports / 2 < m → walk_answer w ≡ NoRoom m → Way r w m
+  accepted : Run r w m → m ≤ length w.reports / 2 → walk_answer w ≡ Accepted m (fallbacks r w) (holding r w) → Way r w m
 
 module _ {r : Rules} {w : WalkCall} (over : OverTables r w) where
   abbrev m : ℕ
   m = (found over).m
 
-  ran : length w.text ≤ mostBytes → w.n ≤ lent w.tables → Run r w m → Way r w m
+  ran : length w.text ≤ most_bytes → w.n ≤ lent w.tables → Run r w m → Way r w m
   ran short lends x =
       let room = length w.reports / 2 in
-      let a = walked w.tables w.n w.text (length w.reports) short (rows-lent w.tables w.n (over-ne over) lends) refl x.run in
+      let a = walked w.tables w.n w.text (length w.reports) short (rows-lent w.tables w.n (over_ne over) lends) refl x.run in
       elim (dec_lt room m) [
-        | yes l ↦ no_room x l (sym a ∙ rw (lt-ltb room m l))
+        | yes l ↦ no_room_lem x l (sym a ∙ rw (lt-ltb room m l))
         | no g ↦ let l : m ≤ room = omega arith in accepted x l (sym a ∙ rw (le-ltb room m l, x.holds))
       ]
 
   way : Way r w m
   way =
-      elim (dec_lt mostBytes (length w.text)) [
-        | yes l ↦ too_long l (rw (lt-ltb mostBytes (length w.text) l))
+      elim (dec_lt most_bytes (length w.text)) [
+        | yes l ↦ too_long_lem l (rw (lt-ltb most_bytes (length w.text) l))
         | no g ↦
-            let short : length w.text ≤ mostBytes = omega arith in
+            let short : length w.text ≤ most_bytes = omega arith in
             elim (dec_lt (lent w.tables) w.n) [
-              | yes l ↦ bad-rows l (none_lent w short (inr l))
+              | yes l ↦ bad_rows_lem l (none_lent w short (inr l))
               | no h ↦ ran short (omega arith) (runs over (omega arith))
             ]
       ]
 
   -- accepted, it went the last of these ways
   when : {k falls h : ℕ} → WalkAnswers w 0 (k ∷ falls ∷ h ∷ [])
-      → Run r w m × (walkAnswer w ≡ Accepted m (fallbacks r w) (holding r w)) × (k ≡ m) × (falls ≡ fallbacks r w) × (h ≡ holding r w)
+      → Run r w m × (walk_answer w ≡ Accepted m (fallbacks r w) (holding r w)) × (k ≡ m) × (falls ≡ fallbacks r w) × (h ≡ holding r w)
   when a =
       elim way [
-        | too_long _ e ↦ absurd (omega (arith, rw e at a.number_is))
-        | bad-rows _ e ↦ absurd (omega (arith, rw e at a.number_is))
-        | no_room _ _ e ↦ absurd (omega (arith, rw e at a.number_is))
-        | accepted x _ e ↦ let v = rw e at a.values-are in (x, e, (cc), (cc), (cc))
+        | too_long_lem _ e ↦ absurd (omega (arith, rw e at a.number_is))
+        | bad_rows_lem _ e ↦ absurd (omega (arith, rw e at a.number_is))
+        | no_room_lem _ _ e ↦ absurd (omega (arith, rw e at a.number_is))
+        | accepted x _ e ↦ let v = rw e at a.values_are in (x, e, (cc), (cc), (cc))
       ]
 
   -- ---- demand 2
 
-  undamaged : number_of (walkAnswer w) ≡ 13 → ⊥
+  undamaged : number_of (walk_answer w) ≡ 13 → ⊥
   undamaged z =
       elim way [
-        | too_long _ e ↦ omega (arith, rw e at z)
-        | bad-rows _ e ↦ omega (arith, rw e at z)
-        | no_room _ _ e ↦ omega (arith, rw e at z)
+        | too_long_lem _ e ↦ omega (arith, rw e at z)
+        | bad_rows_lem _ e ↦ omega (arith, rw e at z)
+        | no_room_lem _ _ e ↦ omega (arith, rw e at z)
         | accepted _ _ e ↦ omega (arith, rw e at z)
       ]
 
   -- the answer and the buffer by the room
-  pub roomy : length w.text ≤ mostBytes → w.n ≤ lent w.tables → m ≤ length w.reports / 2
-      → (walkAnswer w ≡ Accepted m (fallbacks r w) (holding r w)) × (reportsAfter w ≡ written (occurrences mostRules r w.text) w.reports)
+  pub roomy : length w.text ≤ most_bytes → w.n ≤ lent w.tables → m ≤ length w.reports / 2
+      → (walk_answer w ≡ Accepted m (fallbacks r w) (holding r w)) × (reports_after w ≡ written (occurrences most_rules r w.text) w.reports)
   roomy short lends l =
       elim way [
-        | too_long g _ ↦ absurd (omega arith)
-        | bad-rows g _ ↦ absurd (omega arith)
-        | no_room _ g _ ↦ absurd (omega arith)
+        | too_long_lem g _ ↦ absurd (omega arith)
+        | bad_rows_lem g _ ↦ absurd (omega arith)
+        | no_room_lem _ g _ ↦ absurd (omega arith)
         | accepted x _ e ↦ (e, rw (e, x.reports))
       ]
 
-  pub crowded : length w.text ≤ mostBytes → w.n ≤ lent w.tables → length w.reports / 2 < m → (walkAnswer w ≡ NoRoom m) × (reportsAfter w ≡ w.reports)
+  pub crowded : length w.text ≤ most_bytes → w.n ≤ lent w.tables → length w.reports / 2 < m → (walk_answer w ≡ NoRoom m) × (reports_after w ≡ w.reports)
   crowded short lends l =
       elim way [
-        | too_long g _ ↦ absurd (omega arith)
-        | bad-rows g _ ↦ absurd (omega arith)
-        | no_room _ _ e ↦ (e, rw e)
+        | too_long_lem g _ ↦ absurd (omega arith)
+        | bad_rows_lem g _ ↦ absurd (omega arith)
+        | no_room_lem _ _ e ↦ (e, rw e)
         | accepted _ g _ ↦ absurd (omega arith)
       ]
 
@@ -196,12 +196,12 @@ module _ {r : Rules} {w : WalkCall} (over : OverTables r w) where
   unfolding written
   demand2 = record {
     undamaged = undamaged;
-    finds = λ k falls h a. let (x, e, z, _, _) = when a in rw (e, x.reports, z) (lists-append _ (omega (arith, (found over).long)) (found over).lists);
-    list = occurrences mostRules r w.text;
+    finds = λ k falls h a. let (x, e, z, _, _) = when a in rw (e, x.reports, z) (lists_append _ (omega (arith, (found over).long)) (found over).lists);
+    list = occurrences most_rules r w.text;
     m = m;
     occurrences = (found over).lists;
-    room = λ short lends l. let e = (roomy short lends l).0 in record { number_is = rw e; values-are = rw e };
-    no_room = λ short lends l. let e = (crowded short lends l).0 in record { number_is = rw e; values-are = rw e };
+    room = λ short lends l. let e = (roomy short lends l).0 in record { number_is = rw e; values_are = rw e };
+    no_room_lem = λ short lends l. let e = (crowded short lends l).0 in record { number_is = rw e; values_are = rw e };
   }
 
   -- ---- demand 3
@@ -209,10 +209,10 @@ module _ {r : Rules} {w : WalkCall} (over : OverTables r w) where
   demand3 : (k falls h : ℕ) → WalkAnswers w 0 (k ∷ falls ∷ h ∷ []) → Demand3 r w falls h
   demand3 k falls h a =
       let (x, _, _, p, q) = when a in
-      let l = fallsIn-le r (reverse w.text) in
+      let l = falls_in-le r (reverse w.text) in
       let n = length-reverse w.text in
-      let f = one-a-byte w.tables.goto w.tables.fall w.tables.out w.n w.text 0 0 0 0 x.run in
-      record { fallbacks = p; holds = q; longest = rw q (held-longest r w.text); bound = omega arith; one-a-byte = f; moves = omega arith }
+      let f = one_a_byte w.tables.goto w.tables.fall w.tables.out w.n w.text 0 0 0 0 x.run in
+      record { fallbacks = p; holds = q; longest = rw q (held-longest r w.text); bound = omega arith; one_a_byte = f; moves = omega arith }
 
 pub matches : Matches
 matches r w over = record { demand2 = demand2 over; demand3 = demand3 over }

@@ -4,10 +4,10 @@ use mathlib.Core.Path.{subst}
 use Prim.Native.Nat.{ℕ, suc, ◌+◌, ◌*◌, ◌≤◌}
 use native.Mathlib.Omega.{arith}
 use lib.ListN.{length}
-use Rattle.sets.specs.Table.{rulesAt}
+use Rattle.sets.specs.Table.{rules_at}
 use Rattle.sets.proofs.Members.{members-le}
-use Rattle.book.specs.Limits.{mostRules}
-use Rattle.one_byte.specs.Move.{moveFrom, onMove}
+use Rattle.book.specs.Limits.{most_rules}
+use Rattle.one_byte.specs.Move.{move_from, on_move}
 use Rattle.walk.specs.Walk.{reported, run_from, run_of}
 use Rattle.walk.specs.declared.Counted.{Counted}
 use Rattle.walk.specs.declared.Counted.TheVariants.{Read, Stopped}
@@ -15,9 +15,9 @@ use Rattle.one_byte.specs.declared.Moved.{Moved}
 use Rattle.one_byte.specs.declared.Moved.TheVariants.{Reached, Lost}
 use Rattle.listed.specs.Demands.{FewReports}
 
-reported-le : (out : List ℕ) (row : ℕ) → length (reported out row) ≤ mostRules
+reported-le : (out : List ℕ) (row : ℕ) → length (reported out row) ≤ most_rules
 unfolding reported
-reported-le out row = members-le mostRules (rulesAt out row)
+reported-le out row = members-le most_rules (rules_at out row)
 
 -- a run that starts with so many has at most so many when it is read
 abbrev AtMost : ℕ → Counted → Type 0
@@ -29,15 +29,15 @@ at_most (Read made falls row) h l = omega arith
 at_most (Stopped at) h l = tt
 
 module _ (goto fall out : List ℕ) (n : ℕ) where
-  run-few : (text : List ℕ) (at row falls made : ℕ) → AtMost (made + mostRules * length text) (run_from goto fall out n at row falls made text)
+  run-few : (text : List ℕ) (at row falls made : ℕ) → AtMost (made + most_rules * length text) (run_from goto fall out n at row falls made text)
   unfolding run_from
   run-few [] at row falls made = omega arith
-  run-few (c ∷ text) at row falls made = go (moveFrom goto fall n row c 0) (λ to f m. run-few text (at + 1) to f m)
+  run-few (c ∷ text) at row falls made = go (move_from goto fall n row c 0) (λ to f m. run-few text (at + 1) to f m)
     where
-      go : (m : Moved) → ((to f m : ℕ) → AtMost (m + mostRules * length text) (run_from goto fall out n (at + 1) to f m text))
-          → AtMost (made + mostRules * suc (length text)) (onMove m (λ to more. run_from goto fall out n (at + 1) to (falls + more) (made + length (reported out to)) text) (Stopped at))
+      go : (m : Moved) → ((to f m : ℕ) → AtMost (m + most_rules * length text) (run_from goto fall out n (at + 1) to f m text))
+          → AtMost (made + most_rules * suc (length text)) (on_move m (λ to more. run_from goto fall out n (at + 1) to (falls + more) (made + length (reported out to)) text) (Stopped at))
       go (Reached to more) ih = at_most (run_from goto fall out n (at + 1) to (falls + more) (made + length (reported out to)) text) (omega (arith, reported-le out to)) (ih to (falls + more) (made + length (reported out to)))
       go Lost ih = tt
 
 pub few-reports : FewReports
-few-reports goto fall out text n made falls row e = subst (AtMost (mostRules * length text)) e (at_most (run_of goto fall out n text) (omega arith) (run-few goto fall out n text 0 0 0 0))
+few-reports goto fall out text n made falls row e = subst (AtMost (most_rules * length text)) e (at_most (run_of goto fall out n text) (omega arith) (run-few goto fall out n text 0 0 0 0))

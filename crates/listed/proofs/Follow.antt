@@ -10,40 +10,40 @@ use Rattle.rows.specs.Rows.{ByteText, IsRow}
 use Rattle.rows.proofs.Rows.{row_same}
 use Rattle.meaning.specs.Rules.{Rules}
 use Rattle.meaning.specs.Standing.{Same, out}
-use Rattle.meaning.specs.Falls.{falls, fallsIn}
-use Rattle.meaning.specs.Tables.{noEntry, Five, gotoAt, Tables}
+use Rattle.meaning.specs.Falls.{falls, falls_in}
+use Rattle.meaning.specs.Tables.{no_entry, Five, goto_at, Tables}
 use Rattle.meaning.proofs.Congruent.{congruence}
-use Rattle.meaning.proofs.Looks.{ahead, behind, look, tables-linked, row_out}
+use Rattle.meaning.proofs.Looks.{ahead, behind, look, tables_linked, row_out}
 use Rattle.meaning.proofs.Shorter.{shorter}
-use Rattle.book.specs.Limits.{mostRules}
+use Rattle.book.specs.Limits.{most_rules}
 use Rattle.walk.specs.declared.Counted.TheVariants.{Read}
 use Rattle.one_byte.specs.declared.Moved.TheVariants.{Reached}
-use Rattle.one_byte.specs.Move.{moveFrom}
-use Rattle.walk.specs.Walk.{reported, run_from, reportsFrom}
-use Rattle.one_byte.proofs.Laws.{first-go, first-fall}
-use Rattle.meaning.proofs.Occurrences.{occurrencesFrom}
+use Rattle.one_byte.specs.Move.{move_from}
+use Rattle.walk.specs.Walk.{reported, run_from, reports_from}
+use Rattle.one_byte.proofs.Laws.{first_go, first-fall}
+use Rattle.meaning.proofs.Occurrences.{occurrences_from}
 
-module _ {r : Rules} {b : Five} {n : ℕ} (tables : Tables r b n) (rows : n ≤ noEntry) where
+module _ {r : Rules} {b : Five} {n : ℕ} (tables : Tables r b n) (rows : n ≤ no_entry) where
   -- row i is the row of t
   abbrev pub At : List ℕ → ℕ → Type 0
   At t i = IsRow (Same r) tables.texts t i
 
-  pub at-below : {t : List ℕ} {i : ℕ} → At t i → i < n
-  at-below x = omega (arith, x.below, tables.count)
+  pub at_below : {t : List ℕ} {i : ℕ} → At t i → i < n
+  at_below x = omega (arith, x.below, tables.count)
 
   -- one byte's move, by induction on the falls
-  move_in : (k : ℕ) {t : List ℕ} {i : ℕ} (c h : ℕ) → i < k → At t i → c < 256
-      → (e : ℕ) × (moveFrom b.goto b.fall n i c h ≡ Reached e (h + falls r t c)) × At (c ∷ t) e
-  move_in zero c h l x byte = absurd (omega arith)
-  move_in (suc k) {t} {i} c h l x byte =
-      elim (look (tables-linked tables rows) byte (at-below x) x) [
+  move_in_lem : (k : ℕ) {t : List ℕ} {i : ℕ} (c h : ℕ) → i < k → At t i → c < 256
+      → (e : ℕ) × (move_from b.goto b.fall n i c h ≡ Reached e (h + falls r t c)) × At (c ∷ t) e
+  move_in_lem zero c h l x byte = absurd (omega arith)
+  move_in_lem (suc k) {t} {i} c h l x byte =
+      elim (look (tables_linked tables rows) byte (at_below x) x) [
         | ahead ne y z ↦ (
-          gotoAt b.goto i c,
-          first-go b.goto b.fall n i c h refl ne (at-below y) ∙ rw (z, add-zero),
+          goto_at b.goto i c,
+          first_go b.goto b.fall n i c h refl ne (at_below y) ∙ rw (z, add-zero),
           y,
         )
         | behind q d y same z ↦
-            let (e, m, w) = move_in k c (h + 1) (omega arith) y byte in
+            let (e, m, w) = move_in_lem k c (h + 1) (omega arith) y byte in
             let one : h + falls r t c ≡ h + 1 + falls r (shorter r t) c = omega arith in (
               e,
               first-fall b.goto b.fall n i c h refl refl q d ∙ rw one m,
@@ -52,18 +52,18 @@ module _ {r : Rules} {b : Five} {n : ℕ} (tables : Tables r b n) (rows : n ≤ 
       ]
 
   pub move : {t : List ℕ} {i : ℕ} (c : ℕ) → At t i → c < 256
-      → (e : ℕ) × (moveFrom b.goto b.fall n i c 0 ≡ Reached e (falls r t c)) × At (c ∷ t) e
-  move {i} c x byte = let (e, m, y) = move_in (suc i) c 0 (omega arith) x byte in (e, m ∙ rw zero-add, y)
+      → (e : ℕ) × (move_from b.goto b.fall n i c 0 ≡ Reached e (falls r t c)) × At (c ∷ t) e
+  move {i} c x byte = let (e, m, y) = move_in_lem (suc i) c 0 (omega arith) x byte in (e, m ∙ rw zero-add, y)
 
   -- a run over what is left of a text: its last row, its reports, and its fallbacks
   pub record Followed (at : ℕ) (t : List ℕ) (i : ℕ) (text : List ℕ) : Type 0 where
     pub last : ℕ
     pub row : At (reverse_aux text t) last
-    pub reports : reportsFrom b.goto b.fall b.out n at i text ≡ occurrencesFrom mostRules r at t text
-    pub run : (so_far : ℕ) → (made : ℕ) × (run_from b.goto b.fall b.out n at i (fallsIn r t) so_far text ≡ Read made (fallsIn r (reverse_aux text t)) last)
+    pub reports : reports_from b.goto b.fall b.out n at i text ≡ occurrences_from most_rules r at t text
+    pub run : (so_far : ℕ) → (made : ℕ) × (run_from b.goto b.fall b.out n at i (falls_in r t) so_far text ≡ Read made (falls_in r (reverse_aux text t)) last)
 
   pub follow : (text : List ℕ) → ByteText text → (at : ℕ) {t : List ℕ} {i : ℕ} → At t i → Followed at t i text
-  unfolding run_from reportsFrom occurrencesFrom reported fallsIn
+  unfolding run_from reports_from occurrences_from reported falls_in
   follow [] bytes at {i} x = record { last = i; row = x; reports = refl; run = λ so_far. (so_far, refl) }
   follow (c ∷ text) bytes at {t} {i} x =
       let (e, m, y) = move c x (bytes 0) in

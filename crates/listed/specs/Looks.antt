@@ -1,24 +1,24 @@
 -- The looks of a run over tables, in order, and how many of them go on. Assumes nothing.
 use Rattle.std.specs.Prelude.{List, [], ◌∷◌, ◌++◌, ℕ, zero, suc, ◌+◌}
-use Rattle.sets.specs.Sums.{sumOver}
-use Rattle.one_byte.specs.Move.{Looked, Go, Fall, Wrong, lookAt, moveFrom, onMove}
+use Rattle.sets.specs.Sums.{sum_over}
+use Rattle.one_byte.specs.Move.{Looked, Go, Fall, Wrong, look_at, move_from, on_move}
 
 -- the looks after one, where it falls
-abbrev pub afterLook : Looked → (ℕ → List Looked) → List Looked
-afterLook (Go e) k = []
-afterLook (Fall f) k = k f
-afterLook Wrong k = []
+abbrev pub after_look : Looked → (ℕ → List Looked) → List Looked
+after_look (Go e) k = []
+after_look (Fall f) k = k f
+after_look Wrong k = []
 
 module _ (goto fall : List ℕ) (n : ℕ) where
-  -- the looks of a byte's move, in order, as many as `moveIn` makes
-  unfoldable pub looksIn : ℕ → ℕ → ℕ → List Looked
-  looksIn zero row c = []
-  looksIn (suc k) row c = lookAt goto fall n row c ∷ afterLook (lookAt goto fall n row c) (λ f. looksIn k f c)
+  -- the looks of a byte's move, in order, as many as `move_in` makes
+  unfoldable pub looks_in : ℕ → ℕ → ℕ → List Looked
+  looks_in zero row c = []
+  looks_in (suc k) row c = look_at goto fall n row c ∷ after_look (look_at goto fall n row c) (λ f. looks_in k f c)
 
   -- those of the run over a text
-  unfoldable pub looksFrom : ℕ → List ℕ → List Looked
-  looksFrom row [] = []
-  looksFrom row (c ∷ text) = looksIn (suc row) row c ++ onMove (moveFrom goto fall n row c 0) (λ to more. looksFrom to text) []
+  unfoldable pub looks_from : ℕ → List ℕ → List Looked
+  looks_from row [] = []
+  looks_from row (c ∷ text) = looks_in (suc row) row c ++ on_move (move_from goto fall n row c 0) (λ to more. looks_from to text) []
 
 -- 1 for a look that goes on
 abbrev pub going : Looked → ℕ
@@ -28,4 +28,4 @@ going Wrong = 0
 
 -- how many of them go on
 abbrev pub goings : List Looked → ℕ
-goings ls = sumOver going ls
+goings ls = sum_over going ls

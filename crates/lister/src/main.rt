@@ -1,10 +1,10 @@
 // The lister: reads a book, `book.bin`, and a text, standard input, and writes the rows used, a line for each report, and the fallbacks with the
 // held length; or why it is refused.
+#![tactic(auto)]
 
 ghost use Rattle.std.specs.Prelude.{◌≤◌, length, take};
-ghost use Rattle.moments.specs.Moments.{was, left};
 ghost use Rattle.lent.specs.Lent.{given};
-ghost use Rattle.lister.specs.Listing.{PutsSearch, listRoom, ListerAnswer};
+ghost use Rattle.lister.specs.Listing.{PutsSearch, list_room, ListerAnswer};
 
 use answers::Walked;
 use inputs::Both;
@@ -36,9 +36,9 @@ fn list(book: &[u8], text: &[u8]) {
 
 // Builds the book's tables, has the text walked over them, and puts the lines of both.
 fn put_answer(book: &[u8], text: &[u8], answer: &mut [u8]) -> usize
-    requires { listRoom ≤ length answer.old }
-    ensures upper_bound { result ≤ length (left answer) }
-    ensures lister_answer { ListerAnswer (was book) (was text) (take result (left answer)) }
+    requires { list_room ≤ length answer.old }
+    ensures within { result ≤ length answer.new }
+    ensures answers { ListerAnswer book.now text.now (take result answer.new) }
 {
     let mut goto = [0u16; inputs::ENTRIES];
     let mut fall = [0u16; inputs::ROWS];
@@ -75,7 +75,7 @@ fn search(
     answer: &mut [u8],
     at: usize,
 ) -> usize
-    ensures { PutsSearch (given goto fall held live out) rows (was text) (was answer) at (left answer) result }
+    ensures { PutsSearch (given goto.now fall.now held.now live.now out.now) rows text.now answer.old at answer.new result }
 {
     let mut reports = [0u32; PLACES];
     let walked = walk::walk(goto, fall, held, live, out, rows, text, &mut reports);

@@ -16,49 +16,49 @@ use lib.Seq.{get_or-append_seam}
 use borrow.Author.Tests.{eq-eqb, ne_eqb}
 use Rattle.rows.specs.Rows.{IsRow, HasRow, Ascending, IsRows, MoreThan}
 use Rattle.rows.specs.Unique.{Congruence}
-use Rattle.rows.proofs.Rows.{row_same, row-own, row-append, one-row}
+use Rattle.rows.proofs.Rows.{row_same, row_own, row_append, one_row_lem}
 use Rattle.rows.proofs.Build.{Partial, start, found, added, next, finish, crowded, length-snoc, row_new}
 use Rattle.meaning.specs.Rules.{Rules}
 use Rattle.meaning.specs.Standing.{Same, held, live, out}
-use Rattle.meaning.specs.Tables.{noEntry, Columns, IsFall, Numbers, Entry, goesOnAt, EntryAt, Gotos}
-use Rattle.meaning.specs.Step.{nextLive, finished, Follows}
-use Rattle.meaning.proofs.Levels.{same_refl, same-sym, same-trans}
+use Rattle.meaning.specs.Tables.{no_entry, Columns, IsFall, Numbers, Entry, goes_on_at, EntryAt, Gotos}
+use Rattle.meaning.specs.Step.{next_live, finished, Follows}
+use Rattle.meaning.proofs.Levels.{same_refl, same_sym, same_trans}
 use Rattle.meaning.proofs.Held.{held-nil, live-none, same-held, same_live}
-use Rattle.meaning.proofs.Shorter.{shorter, shorter-nil, fall-row, row-fall, same-shorter, same_key}
-use Rattle.meaning.proofs.Next.{grows, extends-grows, grows-held, grows-shorter, grows-shorter-first, fails-same, fails-first, grows_some, grows_none, grows-live}
-use Rattle.meaning.proofs.Outs.{same_out, out-or, out_none}
+use Rattle.meaning.proofs.Shorter.{shorter, shorter-nil, fall_row, row_fall, same-shorter, same_key}
+use Rattle.meaning.proofs.Next.{grows, extends-grows, grows-held, grows-shorter, grows-shorter-first, fails_same, fails_first, grows_some, grows_none, grows-live}
+use Rattle.meaning.proofs.Outs.{same_out, out_or, out_none}
 use Rattle.meaning.proofs.Congruent.{congruence}
-use Rattle.meaning.proofs.Rooted.{row-empty, held-pos, fall-lower}
-use Rattle.meaning.proofs.Looks.{Linked, follows-row}
+use Rattle.meaning.proofs.Rooted.{row_empty, held_pos, fall-lower}
+use Rattle.meaning.proofs.Looks.{Linked, follows_row}
 
 -- ---- a row by its key
 
 module _ {r : Rules} {ts : List (List ℕ)} {x : Columns} (numbers : Numbers r ts x) {u : List ℕ} {v : ℕ} (f : IsRow (Same r) ts (shorter r u) v) where
-  row-of-key : (i : ℕ) → i < length ts → x.held i ≡ held r u → x.live i ≡ live r u → x.fall i ≡ v → IsRow (Same r) ts u i
-  row-of-key i l h a q =
-      let y : IsRow (Same r) ts (shorter r (get_or ts i [])) v = rw q at (fall-row (numbers.fall-is i l)) in
+  row_of_key : (i : ℕ) → i < length ts → x.held i ≡ held r u → x.live i ≡ live r u → x.fall i ≡ v → IsRow (Same r) ts u i
+  row_of_key i l h a q =
+      let y : IsRow (Same r) ts (shorter r (get_or ts i [])) v = rw q at (fall_row (numbers.fall_is i l)) in
       record {
         below = l;
-        same = same_key r u (get_or ts i []) (sym h ∙ numbers.held-is i l) (sym a ∙ numbers.live-is i l) (same-trans f.same (same-sym y.same));
+        same = same_key r u (get_or ts i []) (sym h ∙ numbers.held_is i l) (sym a ∙ numbers.live_is i l) (same_trans f.same (same_sym y.same));
       }
 
-  key-of-row : Ascending (Same r) ts → (i : ℕ) → IsRow (Same r) ts u i → (x.held i ≡ held r u) × (x.live i ≡ live r u) × (x.fall i ≡ v)
-  key-of-row asc i y = (
-    numbers.held-is i y.below ∙ sym (same-held y.same),
-    numbers.live-is i y.below ∙ sym (same_live y.same),
-    one-row (congruence r) asc (fall-row (numbers.fall-is i y.below)) (row_same (congruence r) (same-sym (same-shorter y.same)) f),
+  key_of_row : Ascending (Same r) ts → (i : ℕ) → IsRow (Same r) ts u i → (x.held i ≡ held r u) × (x.live i ≡ live r u) × (x.fall i ≡ v)
+  key_of_row asc i y = (
+    numbers.held_is i y.below ∙ sym (same-held y.same),
+    numbers.live_is i y.below ∙ sym (same_live y.same),
+    one_row_lem (congruence r) asc (fall_row (numbers.fall_is i y.below)) (row_same (congruence r) (same_sym (same-shorter y.same)) f),
   )
 
 -- ---- one row more
 
 entry-append : {r : Rules} {ts : List (List ℕ)} {t : List ℕ} {c e : ℕ} {b : Bool} (us : List (List ℕ)) → Entry r ts t c e b → Entry r (ts ++ us) t c e b
-entry-append {r} us x = record { on = λ q. row-append (congruence r) us (x.on q); back = x.back }
+entry-append {r} us x = record { on = λ q. row_append (congruence r) us (x.on q); back = x.back }
 
 -- an entry, where it is known which way it goes
 entry-on : {r : Rules} {ts : List (List ℕ)} {t : List ℕ} {c e : ℕ} {b : Bool} → b ≡ true → IsRow (Same r) ts (c ∷ t) e → Entry r ts t c e b
 entry-on q x = record { on = λ _. x; back = λ p. absurd (true≢false (sym q ∙ p)) }
 
-entry-back : (r : Rules) (ts : List (List ℕ)) (t : List ℕ) (c : ℕ) {b : Bool} → b ≡ false → Entry r ts t c noEntry b
+entry-back : (r : Rules) (ts : List (List ℕ)) (t : List ℕ) (c : ℕ) {b : Bool} → b ≡ false → Entry r ts t c no_entry b
 entry-back r ts t c q = record { on = λ p. absurd (true≢false (sym p ∙ q)); back = λ _. refl }
 
 -- a table is as it was below n, and v at n
@@ -92,11 +92,11 @@ module _ {r : Rules} {ts : List (List ℕ)} {x : Columns} (numbers : Numbers r t
   numbers_more : {v h a o : ℕ} {y : Columns} → Row (length ts) v h a o x y → IsRow (Same r) ts (shorter r u) v → h ≡ held r u → a ≡ live r u → o ≡ out r u
       → Numbers r us y
   numbers_more w f qh qa qo = record {
-    fall-is = grow (λ t y. IsFall r us t y) w.fall-put
-        (λ i k. row-fall (row-append (congruence r) (u ∷ []) (fall-row (numbers.fall-is i k)))) (row-fall (row-append (congruence r) (u ∷ []) f));
-    held-is = grow (λ t y. y ≡ held r t) w.held-put numbers.held-is qh;
-    live-is = grow (λ t y. y ≡ live r t) w.live-put numbers.live-is qa;
-    out-is = grow (λ t y. y ≡ out r t) w.out-put numbers.out-is qo;
+    fall_is = grow (λ t y. IsFall r us t y) w.fall-put
+        (λ i k. row_fall (row_append (congruence r) (u ∷ []) (fall_row (numbers.fall_is i k)))) (row_fall (row_append (congruence r) (u ∷ []) f));
+    held_is = grow (λ t y. y ≡ held r t) w.held-put numbers.held_is qh;
+    live_is = grow (λ t y. y ≡ live r t) w.live-put numbers.live_is qa;
+    out_is = grow (λ t y. y ≡ out r t) w.out-put numbers.out_is qo;
   }
 
 -- ---- the bytes of row s, in order
@@ -112,7 +112,7 @@ pub record Filling (r : Rules) (ts : List (List ℕ)) (goto : ℕ → ℕ → �
   pub numbers : Numbers r ts x
   pub done : (q e : ℕ) → q < s → e < 256 → EntryAt r ts goto q e
   pub leads : (e : ℕ) → e < 256 → Via r ts s e (via e)
-  pub part : (e : ℕ) → e < c → Entry r ts (get_or ts s []) e (row e) (goesOnAt r ts s e)
+  pub part : (e : ℕ) → e < c → Entry r ts (get_or ts s []) e (row e) (goes_on_at r ts s e)
 
 module _ {r : Rules} {ts : List (List ℕ)} {goto : ℕ → ℕ → ℕ} {via row : ℕ → ℕ} {x : Columns} {s c : ℕ} (f : Filling r ts goto via row x s c)
     (l : s < length ts) (byte : c < 256) where
@@ -132,37 +132,37 @@ module _ {r : Rules} {ts : List (List ℕ)} {goto : ℕ → ℕ → ℕ} {via ro
   root-held z = rw (z, top.1) (held-nil r)
 
   some-held : 0 < s → 0 < held r t
-  some-held = held-pos asc top s t (row-own C ts s l)
+  some-held = held_pos asc top s t (row_own C ts s l)
 
   -- the rules that go on with the byte
   abbrev onward : ℕ
-  onward = nextLive r (x.held s) (x.live s) c
+  onward = next_live r (x.held s) (x.live s) c
 
   -- the next entry is right, and the byte has a row
-  filled : {e : ℕ} {row' : ℕ → ℕ} → Put c e row row' → Entry r ts t c e (goesOnAt r ts s c) → HasRow (Same r) ts (c ∷ t) → Filling r ts goto via row' x s (c + 1)
+  filled : {e : ℕ} {row' : ℕ → ℕ} → Put c e row row' → Entry r ts t c e (goes_on_at r ts s c) → HasRow (Same r) ts (c ∷ t) → Filling r ts goto via row' x s (c + 1)
   filled p y h = record {
     partial = found C f.partial h;
     numbers = f.numbers;
     done = f.done;
     leads = f.leads;
-    part = λ i k. put_all (λ i z. Entry r ts t i z (goesOnAt r ts s i)) p f.part y i (omega arith);
+    part = λ i k. put_all (λ i z. Entry r ts t i z (goes_on_at r ts s i)) p f.part y i (omega arith);
   }
 
   -- no rule goes on
   module _ (none : onward ≡ 0) where
     stops : grows r t c ≡ false
-    stops = grows_none r t c (rw (f.numbers.held-is s l, f.numbers.live-is s l) at none)
+    stops = grows_none r t c (rw (f.numbers.held_is s l, f.numbers.live_is s l) at none)
 
     pub place-root : s ≡ 0 → {row' : ℕ → ℕ} → Put c 0 row row' → Filling r ts goto via row' x s (c + 1)
     place-root z p =
-        let y = row_same C (fails-first r t c stops (root-held z)) (row-empty asc top) in
+        let y = row_same C (fails_first r t c stops (root-held z)) (row_empty asc top) in
         filled p (entry-on (rw (eq-eqb s 0 z)) y) (0, y)
 
-    pub place_none : 0 < s → {row' : ℕ → ℕ} → Put c noEntry row row' → Filling r ts goto via row' x s (c + 1)
+    pub place_none : 0 < s → {row' : ℕ → ℕ} → Put c no_entry row row' → Filling r ts goto via row' x s (c + 1)
     place_none some p =
         let ne : s ≢ 0 = omega arith in
         filled p (entry-back r ts t c (rw (ne_eqb s 0 ne, extends-grows r t c (some-held some), stops)))
-        (via c, row_same C (fails-same r t c stops (some-held some)) ((f.leads c byte).later some))
+        (via c, row_same C (fails_same r t c stops (some-held some)) ((f.leads c byte).later some))
 
   -- some rule goes on
   module _ (some : onward ≢ 0) where
@@ -172,31 +172,31 @@ module _ {r : Rules} {ts : List (List ℕ)} {goto : ℕ → ℕ → ℕ} {via ro
     abbrev u : List ℕ
     u = c ∷ t
 
-    goes_on : grows r t c ≡ true
-    goes_on = grows_some r t c (rw (f.numbers.held-is s l, f.numbers.live-is s l) at some)
+    goes_on_lem : grows r t c ≡ true
+    goes_on_lem = grows_some r t c (rw (f.numbers.held_is s l, f.numbers.live_is s l) at some)
 
-    on-goes : goesOnAt r ts s c ≡ true
+    on-goes : goes_on_at r ts s c ≡ true
     on-goes =
-        elim (eq-zero-or-pos s) [ inl z ↦ rw (eq-eqb s 0 z) | inr p ↦ rw (extends-grows r t c (some-held p), goes_on, or-true) ]
+        elim (eq-zero-or-pos s) [ inl z ↦ rw (eq-eqb s 0 z) | inr p ↦ rw (extends-grows r t c (some-held p), goes_on_lem, or-true) ]
 
     held_next : held r u ≡ x.held s + 1
-    held_next = grows-held r t c goes_on ∙ rw (f.numbers.held-is s l) (sym (add-one (held r t)))
+    held_next = grows-held r t c goes_on_lem ∙ rw (f.numbers.held_is s l) (sym (add-one (held r t)))
 
     live-next : live r u ≡ onward
-    live-next = grows-live r t c goes_on ∙ rw (f.numbers.held-is s l, f.numbers.live-is s l)
+    live-next = grows-live r t c goes_on_lem ∙ rw (f.numbers.held_is s l, f.numbers.live_is s l)
 
     -- the fall of the byte's standing
     fall-next : IsRow (Same r) ts (shorter r u) v
     fall-next =
         elim (eq-zero-or-pos s) [
-          | inl z ↦ rw (grows-shorter-first r t c goes_on (root-held z), (f.leads c byte).first z) (row-empty asc top)
-          | inr p ↦ rw (grows-shorter r t c goes_on (some-held p)) ((f.leads c byte).later p)
+          | inl z ↦ rw (grows-shorter-first r t c goes_on_lem (root-held z), (f.leads c byte).first z) (row_empty asc top)
+          | inr p ↦ rw (grows-shorter r t c goes_on_lem (some-held p)) ((f.leads c byte).later p)
         ]
 
     out-next : bit_or (finished r (x.held s + 1) onward) (x.out v) ≡ out r u
     out-next =
-        rw (← held_next, ← live-next, f.numbers.out-is v fall-next.below, ← same_out fall-next.same)
-        (sym (out-or r u (omega (arith, held_next))))
+        rw (← held_next, ← live-next, f.numbers.out_is v fall-next.below, ← same_out fall-next.same)
+        (sym (out_or r u (omega (arith, held_next))))
 
     -- its key
     abbrev Key : ℕ → Type 0
@@ -204,13 +204,13 @@ module _ {r : Rules} {ts : List (List ℕ)} {goto : ℕ → ℕ → ℕ} {via ro
 
     pub place-there : (i : ℕ) → i < length ts → Key i → {row' : ℕ → ℕ} → Put c i row row' → Filling r ts goto via row' x s (c + 1)
     place-there i k (h, a, q) p =
-        let y = row-of-key f.numbers fall-next i k (h ∙ sym held_next) (a ∙ sym live-next) q in
+        let y = row_of_key f.numbers fall-next i k (h ∙ sym held_next) (a ∙ sym live-next) q in
         filled p (entry-on on-goes y) (i, y)
 
     module _ (fresh : (i : ℕ) → i < length ts → ¬ Key i) where
       unseen : ¬ HasRow (Same r) ts u
       unseen (i, y) =
-          let (h, a, q) = key-of-row f.numbers fall-next asc i y in
+          let (h, a, q) = key_of_row f.numbers fall-next asc i y in
           fresh i y.below (h ∙ held_next, a ∙ live-next, q)
 
       pub place-full : MoreThan (Same r) (length ts)
@@ -227,10 +227,10 @@ module _ {r : Rules} {ts : List (List ℕ)} {goto : ℕ → ℕ → ℕ} {via ro
             rw (get_or-append ts (u ∷ []) [] q k) (entry-append (u ∷ []) (f.done q e h b));
         leads = λ e b.
             let y = f.leads e b in
-            record { first = y.first; later = λ p. rw (get_or-append ts (u ∷ []) [] s l) (row-append C (u ∷ []) (y.later p)) };
+            record { first = y.first; later = λ p. rw (get_or-append ts (u ∷ []) [] s l) (row_append C (u ∷ []) (y.later p)) };
         part =
             rw (get_or-append ts (u ∷ []) [] s l) (λ i k.
-            put_all (λ i z. Entry r (ts ++ u ∷ []) t i z (goesOnAt r ts s i)) p
+            put_all (λ i z. Entry r (ts ++ u ∷ []) t i z (goes_on_at r ts s i)) p
             (λ i h. entry-append (u ∷ []) (f.part i h)) (entry-on on-goes (row_new C ts u)) i (omega arith));
       }
 
@@ -246,10 +246,10 @@ pub built-start : (r : Rules) (goto : ℕ → ℕ → ℕ) (x : Columns) → x.f
 built-start r goto x qf qh ql qo = record {
   partial = start (congruence r);
   numbers = record {
-    fall-is = one (λ t y. IsFall r ([] ∷ []) t y) x.fall (row-fall (rw (qf, shorter-nil r) (record { below = omega arith; same = same_refl r [] })));
-    held-is = one (λ t y. y ≡ held r t) x.held (qh ∙ sym (held-nil r));
-    live-is = one (λ t y. y ≡ live r t) x.live (ql ∙ sym (live-none r [] (held-nil r)));
-    out-is = one (λ t y. y ≡ out r t) x.out (qo ∙ sym (out_none r [] (held-nil r)));
+    fall_is = one (λ t y. IsFall r ([] ∷ []) t y) x.fall (row_fall (rw (qf, shorter-nil r) (record { below = omega arith; same = same_refl r [] })));
+    held_is = one (λ t y. y ≡ held r t) x.held (qh ∙ sym (held-nil r));
+    live_is = one (λ t y. y ≡ live r t) x.live (ql ∙ sym (live-none r [] (held-nil r)));
+    out_is = one (λ t y. y ≡ out r t) x.out (qo ∙ sym (out_none r [] (held-nil r)));
   };
   done = λ q e l. absurd (omega arith);
 }
@@ -259,23 +259,23 @@ built-start r goto x qf qh ql qo = record {
     one P y h (suc i) l = absurd (omega arith)
 
 module _ {r : Rules} {ts : List (List ℕ)} {goto : ℕ → ℕ → ℕ} {x : Columns} {s : ℕ} (b : Built r ts goto x s) where
-  pub built-fill : (via row : ℕ → ℕ) → ((e : ℕ) → e < 256 → Via r ts s e (via e)) → Filling r ts goto via row x s 0
-  built-fill via row leads =
+  pub built_fill : (via row : ℕ → ℕ) → ((e : ℕ) → e < 256 → Via r ts s e (via e)) → Filling r ts goto via row x s 0
+  built_fill via row leads =
       record { partial = b.partial; numbers = b.numbers; done = b.done; leads = leads; part = λ e l. absurd (omega arith) }
 
   -- the row that the fall leads to, by the falls of the rows that are done
-  pub built-via : s < length ts → length ts ≤ noEntry → 0 < s → (c : ℕ) → c < 256 → {n v : ℕ} → Follows goto x.fall c (x.fall s) n v → Via r ts s c v
-  built-via l few p c byte f =
+  pub built_via : s < length ts → length ts ≤ no_entry → 0 < s → (c : ℕ) → c < 256 → {n v : ℕ} → Follows goto x.fall c (x.fall s) n v → Via r ts s c v
+  built_via l few p c byte f =
       let asc = b.partial.ascending in
       let k : Linked r ts goto x.fall s =
-      record { ascending = asc; root = b.partial.root; few = few; fall-is = b.numbers.fall-is; entry = b.done }
+      record { ascending = asc; root = b.partial.root; few = few; fall_is = b.numbers.fall_is; entry = b.done }
       in
-      let y = b.numbers.fall-is s l in
+      let y = b.numbers.fall_is s l in
       let low : x.fall s < s = fall-lower asc b.partial.root s (x.fall s) l p y in
-      record { first = λ z. absurd (omega arith); later = λ _. (follows-row k byte f low (fall-row y)).0 }
+      record { first = λ z. absurd (omega arith); later = λ _. (follows_row k byte f low (fall_row y)).0 }
 
-  pub built-finish : length ts ≤ s → IsRows (Same r) ts × Gotos r ts goto
-  built-finish l = (finish (congruence r) b.partial l, record { entry = λ i c h byte. b.done i c (omega arith) byte })
+  pub built_finish : length ts ≤ s → IsRows (Same r) ts × Gotos r ts goto
+  built_finish l = (finish (congruence r) b.partial l, record { entry = λ i c h byte. b.done i c (omega arith) byte })
 
 -- the row is whole, and stands in goto
 pub built-next : {r : Rules} {ts : List (List ℕ)} {goto goto' : ℕ → ℕ → ℕ} {via row : ℕ → ℕ} {x : Columns} {s : ℕ} → Filling r ts goto via row x s 256

@@ -10,11 +10,11 @@ use lib.ListN.{length, take}
 use lib.Seq.{length-take-le, take-take}
 use Rattle.meaning.specs.Rules.{Rules}
 use Rattle.meaning.specs.Standing.{Same, opens, held, extends}
-use Rattle.meaning.specs.Falls.{longest, nextLongest, fitsWith, fallsFrom, falls, fallsIn}
+use Rattle.meaning.specs.Falls.{longest, next_longest, fits_with, falls_from, falls, falls_in}
 use Rattle.meaning.proofs.Levels.{level-cons, level-cons-none, level-take}
 use Rattle.meaning.proofs.Held.{held-le, held-top, held-nil, held-take, le-held, same-held}
 use Rattle.meaning.proofs.Shorter.{shorter, held-shorter}
-use Rattle.meaning.proofs.Next.{grows, extends-grows, fails-same}
+use Rattle.meaning.proofs.Next.{grows, extends-grows, fails_same}
 
 -- ---- the longest ending that opens a rule
 
@@ -23,13 +23,13 @@ unfolding longest
 length-longest r t = length-take-le (held r t) t (held-le r t)
 
 -- a proper ending has a turn fewer to go
-length-next : (r : Rules) (b : ℕ) (u : List ℕ) → length (nextLongest r (b ∷ u)) ≤ length u
-unfolding nextLongest
+length-next : (r : Rules) (b : ℕ) (u : List ℕ) → length (next_longest r (b ∷ u)) ≤ length u
+unfolding next_longest
 length-next r b u = rw (length-longest r (take (length u) (b ∷ u))) (held-take r (length u) (b ∷ u))
 
 -- turns beyond the bytes of u change nothing
-enough : (r : Rules) (c n m : ℕ) (u : List ℕ) → length u ≤ n → length u ≤ m → fallsFrom r c n u ≡ fallsFrom r c m u
-unfolding fallsFrom
+enough : (r : Rules) (c n m : ℕ) (u : List ℕ) → length u ≤ n → length u ≤ m → falls_from r c n u ≡ falls_from r c m u
+unfolding falls_from
 enough r c zero zero u h l = refl
 enough r c zero (suc m) [] h l = refl
 enough r c zero (suc m) (b ∷ u) h l = absurd (omega arith)
@@ -38,44 +38,44 @@ enough r c (suc n) zero (b ∷ u) h l = absurd (omega arith)
 enough r c (suc n) (suc m) [] h l = refl
 enough r c (suc n) (suc m) (b ∷ u) h l =
     let d = length-next r b u in
-    rw (enough r c n m (nextLongest r (b ∷ u)) (omega arith) (omega arith))
+    rw (enough r c n m (next_longest r (b ∷ u)) (omega arith) (omega arith))
 
 -- ---- the fallbacks of one byte, from the held length
 
-longest-grows : (r : Rules) (t : List ℕ) (c : ℕ) → fitsWith r (longest r t) c ≡ grows r t c
-unfolding fitsWith opens longest
+longest-grows : (r : Rules) (t : List ℕ) (c : ℕ) → fits_with r (longest r t) c ≡ grows r t c
+unfolding fits_with opens longest
 longest-grows r t c =
     rw (length-longest r t, level-cons r c (take (held r t) t) (held r t), level-take r (held r t) t (held r t) (le_refl (held r t)), level-cons r c t (held r t))
 
 falls-first : (r : Rules) (t : List ℕ) (c : ℕ) → held r t ≡ 0 → falls r t c ≡ 0
-unfolding falls longest fallsFrom
+unfolding falls longest falls_from
 falls-first r t c h = rw h (enough r c (length t) zero [] zero-le zero-le)
 
 falls-grows : (r : Rules) (t : List ℕ) (c : ℕ) → grows r t c ≡ true → falls r t c ≡ 0
-unfolding falls fallsFrom
+unfolding falls falls_from
 falls-grows r t c e = go (longest r t) refl (length t)
   where
-    go : (v : List ℕ) → longest r t ≡ v → (n : ℕ) → fallsFrom r c n v ≡ 0
+    go : (v : List ℕ) → longest r t ≡ v → (n : ℕ) → falls_from r c n v ≡ 0
     go v q zero = refl
     go [] q (suc n) = refl
     go (b ∷ u) q (suc n) = rw (rw q at (longest-grows r t c), e)
 
 -- without its oldest byte the longest ending is the shorter text
-next-shorter : (r : Rules) (t : List ℕ) (b : ℕ) (u : List ℕ) → longest r t ≡ b ∷ u → nextLongest r (b ∷ u) ≡ longest r (shorter r t)
-unfolding nextLongest longest shorter
+next-shorter : (r : Rules) (t : List ℕ) (b : ℕ) (u : List ℕ) → longest r t ≡ b ∷ u → next_longest r (b ∷ u) ≡ longest r (shorter r t)
+unfolding next_longest longest shorter
 next-shorter r t b u q =
     let n : suc (length u) ≡ held r t = ap length (sym q) ∙ length-longest r t in
     let m : length u ≡ pred (held r t) = omega arith in
     ap (longest r) (ap (take (length u)) (sym q) ∙ take-take (length u) (held r t) t (omega arith) ∙ ap (λ (x : ℕ). take x t) m)
 
-falls-fails : (r : Rules) (t : List ℕ) (c : ℕ) → grows r t c ≡ false → 0 < held r t → falls r t c ≡ suc (falls r (shorter r t) c)
-unfolding falls fallsFrom
-falls-fails r t c e h = go (longest r t) refl (length t) refl
+falls_fails : (r : Rules) (t : List ℕ) (c : ℕ) → grows r t c ≡ false → 0 < held r t → falls r t c ≡ suc (falls r (shorter r t) c)
+unfolding falls falls_from
+falls_fails r t c e h = go (longest r t) refl (length t) refl
   where
     w : List ℕ
     w = shorter r t
 
-    go : (v : List ℕ) → longest r t ≡ v → (n : ℕ) → length t ≡ n → fallsFrom r c n v ≡ suc (fallsFrom r c (length w) (longest r w))
+    go : (v : List ℕ) → longest r t ≡ v → (n : ℕ) → length t ≡ n → falls_from r c n v ≡ suc (falls_from r c (length w) (longest r w))
     go v q zero d = absurd (omega (arith, held-le r t))
     go [] q (suc n) d = absurd (omega (arith, ap length q, length-longest r t))
     go (b ∷ u) q (suc n) d =
@@ -98,7 +98,7 @@ move r t c = elim (eq-zero-or-pos (held r t)) [ inl d ↦ first d (falls-first r
   where
     go : (b : Bool) → grows r t c ≡ b → 0 < held r t → Move r t c
     go true e d = on d (extends-grows r t c d ∙ e) (falls-grows r t c e)
-    go false e d = back d (extends-grows r t c d ∙ e) (fails-same r t c e d) (falls-fails r t c e d)
+    go false e d = back d (extends-grows r t c d ∙ e) (fails_same r t c e d) (falls_fails r t c e d)
 
 -- ---- the bound
 
@@ -109,10 +109,10 @@ held-cons-le r t c = go (held r (c ∷ t)) refl
     go zero q = omega arith
     go (suc g) q = omega (arith, le-held r t g (λ z. held-top r (c ∷ t) (omega arith) (rw q (level-cons-none r c t g z))))
 
-falls-le-in : (n : ℕ) (r : Rules) (t : List ℕ) (c : ℕ) → held r t ≤ n → falls r t c + held r (c ∷ t) ≤ suc (held r t)
-falls-le-in zero r t c h = omega (arith, falls-first r t c (omega arith), held-cons-le r t c)
-falls-le-in (suc n) r t c h =
-    let ih = falls-le-in n r (shorter r t) c in
+falls-le_in : (n : ℕ) (r : Rules) (t : List ℕ) (c : ℕ) → held r t ≤ n → falls r t c + held r (c ∷ t) ≤ suc (held r t)
+falls-le_in zero r t c h = omega (arith, falls-first r t c (omega arith), held-cons-le r t c)
+falls-le_in (suc n) r t c h =
+    let ih = falls-le_in n r (shorter r t) c in
     elim (move r t c) [
       | first d z ↦ omega (arith, held-cons-le r t c)
       | on d e z ↦ omega (arith, held-cons-le r t c)
@@ -120,9 +120,9 @@ falls-le-in (suc n) r t c h =
     ]
 
 falls-le : (r : Rules) (t : List ℕ) (c : ℕ) → falls r t c + held r (c ∷ t) ≤ suc (held r t)
-falls-le r t c = falls-le-in (held r t) r t c (le_refl (held r t))
+falls-le r t c = falls-le_in (held r t) r t c (le_refl (held r t))
 
-pub fallsIn-le : (r : Rules) (t : List ℕ) → fallsIn r t + held r t ≤ length t
-unfolding fallsIn
-fallsIn-le r [] = omega (arith, held-nil r)
-fallsIn-le r (c ∷ t) = omega (arith, fallsIn-le r t, falls-le r t c)
+pub falls_in-le : (r : Rules) (t : List ℕ) → falls_in r t + held r t ≤ length t
+unfolding falls_in
+falls_in-le r [] = omega (arith, held-nil r)
+falls_in-le r (c ∷ t) = omega (arith, falls_in-le r t, falls-le r t c)

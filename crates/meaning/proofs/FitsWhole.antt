@@ -7,8 +7,8 @@ use lib.ListN.{length, get_or}
 use Rattle.meaning.specs.Rules.{size, symbol, fits}
 use Rattle.meaning.specs.Occurrences.{WholeOccurs, NoneFitsEmpty}
 
-pub whole-occurs : WholeOccurs
-whole-occurs r frame k = (
+pub whole_occurs : WholeOccurs
+whole_occurs r frame k = (
   λ x. (
     record {
       rule = x.rule;

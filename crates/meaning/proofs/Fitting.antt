@@ -8,17 +8,17 @@ use native.Mathlib.Omega.{arith}
 use native.Mathlib.Decide.{dec_lt}
 use lib.Dec.{ltb}
 use borrow.Author.Tests.{ltb-true, lt-ltb, le-ltb, eqb-true, eq-eqb}
-use Rattle.meaning.specs.Rules.{Rules, size, symbol, fits, FitsSymbols, fitsAt, stands, Fits, StandsIff}
+use Rattle.meaning.specs.Rules.{Rules, size, symbol, fits, FitsSymbols, fits_at, stands, Fits, StandsIff}
 
-pub fits-symbols : FitsSymbols
+pub fits_symbols : FitsSymbols
 unfolding fits
-fits-symbols r c = record {
+fits_symbols r c = record {
   byte = λ b l. rw (lt-ltb b 256 l) (eqb-true c b, eq-eqb c b);
   picture = λ p. let q : 256 + p - 256 ≡ p = omega arith in rw (le-ltb (256 + p) 256 (omega arith), q);
 }
 
 stands-fits : (r : Rules) (t : List ℕ) (k j : ℕ) → stands r t k j ≡ true → Fits r t k j
-unfolding stands fitsAt
+unfolding stands fits_at
 stands-fits r t k zero x = record { bytes = zero-le; symbols = zero-le; each = λ i l. absurd (omega arith) }
 stands-fits r [] k (suc j) x = absurd (false≢true x)
 stands-fits r (c ∷ t) k (suc j) x =
@@ -35,7 +35,7 @@ stands-fits r (c ∷ t) k (suc j) x =
     }
 
 fits-stands : (r : Rules) (t : List ℕ) (k j : ℕ) → Fits r t k j → stands r t k j ≡ true
-unfolding stands fitsAt
+unfolding stands fits_at
 fits-stands r t k zero x = refl
 fits-stands r [] k (suc j) x = absurd (omega (arith, x.bytes))
 fits-stands r (c ∷ t) k (suc j) x =
@@ -48,5 +48,5 @@ fits-stands r (c ∷ t) k (suc j) x =
     }) in
     rw (lt-ltb j (size r k) x.symbols, e, b)
 
-pub stands-iff : StandsIff
-stands-iff r t k j = (stands-fits r t k j, fits-stands r t k j)
+pub stands_iff : StandsIff
+stands_iff r t k j = (stands-fits r t k j, fits-stands r t k j)

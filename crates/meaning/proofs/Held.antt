@@ -42,10 +42,10 @@ largest-le p (suc n) = go (p (suc n)) (largest-le p n)
     go true h = omega arith
     go false h = omega arith
 
-largest-above : (p : ℕ → Bool) (n j : ℕ) → largest p n < j → j ≤ n → p j ≡ false
+largest_above : (p : ℕ → Bool) (n j : ℕ) → largest p n < j → j ≤ n → p j ≡ false
 unfolding largest
-largest-above p zero j h l = absurd (omega arith)
-largest-above p (suc n) j h l = go (p (suc n)) refl h (largest-above p n j) (order j (suc n))
+largest_above p zero j h l = absurd (omega arith)
+largest_above p (suc n) j h l = go (p (suc n)) refl h (largest_above p n j) (order j (suc n))
   where
     go : (b : Bool) → p (suc n) ≡ b → cond b (suc n) (largest p n) < j → (largest p n < j → j ≤ n → p j ≡ false) → Order j (suc n) → p j ≡ false
     go true e g ih o = absurd (omega arith)
@@ -73,41 +73,41 @@ pub held-le : (r : Rules) (t : List ℕ) → held r t ≤ length t
 unfolding held
 held-le r t = largest-le (opens r t) (length t)
 
-held-holds : (r : Rules) (t : List ℕ) → Holds r t (held r t)
+held_holds : (r : Rules) (t : List ℕ) → Holds r t (held r t)
 unfolding held
-held-holds r t = record {
+held_holds r t = record {
   above = λ j h.
-      elim (dec_lt (length t) j) [ yes d ↦ level-over r t j d | no g ↦ opens-none r t j (largest-above (opens r t) (length t) j h (omega arith)) ];
+      elim (dec_lt (length t) j) [ yes d ↦ level-over r t j d | no g ↦ opens-none r t j (largest_above (opens r t) (length t) j h (omega arith)) ];
   top = λ h. opens-some r t _ (largest-top (opens r t) (length t) h);
 }
 
-holds-only : {r : Rules} {t : List ℕ} {h g : ℕ} → Holds r t h → Holds r t g → h ≡ g
-holds-only {h} {g} x y = go (order h g)
+holds_only : {r : Rules} {t : List ℕ} {h g : ℕ} → Holds r t h → Holds r t g → h ≡ g
+holds_only {h} {g} x y = go (order h g)
   where
     go : Order h g → h ≡ g
     go (less d) = absurd (y.top (omega arith) (x.above g d))
     go (equal d) = d
     go (more d) = absurd (x.top (omega arith) (y.above h d))
 
-pub held-is : {r : Rules} {t : List ℕ} {h : ℕ} → Holds r t h → held r t ≡ h
-held-is {r} {t} x = holds-only (held-holds r t) x
+pub held_is : {r : Rules} {t : List ℕ} {h : ℕ} → Holds r t h → held r t ≡ h
+held_is {r} {t} x = holds_only (held_holds r t) x
 
-pub held-above : (r : Rules) (t : List ℕ) (j : ℕ) → held r t < j → level r t j ≡ 0
-held-above r t = (held-holds r t).above
+pub held_above : (r : Rules) (t : List ℕ) (j : ℕ) → held r t < j → level r t j ≡ 0
+held_above r t = (held_holds r t).above
 
 pub held-top : (r : Rules) (t : List ℕ) → 0 < held r t → level r t (held r t) ≢ 0
-held-top r t = (held-holds r t).top
+held-top r t = (held_holds r t).top
 
 -- a level that is not empty is at most the held length
 pub le-held : (r : Rules) (t : List ℕ) (j : ℕ) → level r t j ≢ 0 → j ≤ held r t
-le-held r t j x = elim (dec_lt (held r t) j) [ yes d ↦ absurd (x (held-above r t j d)) | no g ↦ omega arith ]
+le-held r t j x = elim (dec_lt (held r t) j) [ yes d ↦ absurd (x (held_above r t j d)) | no g ↦ omega arith ]
 
 -- ---- a standing has one held length, and one live set
 
 pub same-held : {r : Rules} {t u : List ℕ} → Same r t u → held r t ≡ held r u
 same-held {r} {t} {u} s =
-    sym (held-is (record {
-      above = λ j h. sym (same-level s j) ∙ held-above r t j h;
+    sym (held_is (record {
+      above = λ j h. sym (same-level s j) ∙ held_above r t j h;
       top = λ h e. held-top r t h (same-level s (held r t) ∙ e);
     }))
 
@@ -128,7 +128,7 @@ live-none r t h = rw h
 
 -- the last bytes of a text, as many as its held length, have its standing
 same-held-take : (r : Rules) (t : List ℕ) → Same r t (take (held r t) t)
-same-held-take r t = same-take r (held r t) t (held-above r t)
+same-held-take r t = same-take r (held r t) t (held_above r t)
 
 -- the longest ending of at most m bytes that opens a rule
 pub held-take : (r : Rules) (m : ℕ) (t : List ℕ) → held r (take m t) ≤ m

@@ -7,23 +7,23 @@ use native.Mathlib.Omega.{arith}
 use native.Mathlib.Decide.{dec_lt}
 use lib.ListN.{length, take, length-take}
 use Rattle.meaning.specs.Rules.{Rules, count, stands}
-use Rattle.meaning.specs.Standing.{level, Same, goingOn}
-use Rattle.sets.proofs.Laws.{has_in, has-empty, setWhere-ext, setWhere-none}
+use Rattle.meaning.specs.Standing.{level, Same, going_on}
+use Rattle.sets.proofs.Laws.{has_in, has-empty, set_where-ext, set_where-none}
 
 -- ---- one byte more
 
-pub level-cons : (r : Rules) (c : ℕ) (t : List ℕ) (j : ℕ) → level r (c ∷ t) (suc j) ≡ goingOn r c j (level r t j)
-unfolding level stands goingOn
+pub level-cons : (r : Rules) (c : ℕ) (t : List ℕ) (j : ℕ) → level r (c ∷ t) (suc j) ≡ going_on r c j (level r t j)
+unfolding level stands going_on
 level-cons r c t j =
-    setWhere-ext (count r) _ _ (λ k h. rw (has_in (count r) k (λ i. stands r t i j) h))
+    set_where-ext (count r) _ _ (λ k h. rw (has_in (count r) k (λ i. stands r t i j) h))
 
-goingOn-none : (r : Rules) (c j : ℕ) → goingOn r c j 0 ≡ 0
-unfolding goingOn
-goingOn-none r c j =
-    setWhere-none (count r) _ (λ k h. simp (has-empty, and-false))
+going_on-none : (r : Rules) (c j : ℕ) → going_on r c j 0 ≡ 0
+unfolding going_on
+going_on-none r c j =
+    set_where-none (count r) _ (λ k h. simp (has-empty, and-false))
 
 pub level-cons-none : (r : Rules) (c : ℕ) (t : List ℕ) (j : ℕ) → level r t j ≡ 0 → level r (c ∷ t) (suc j) ≡ 0
-level-cons-none r c t j h = level-cons r c t j ∙ ap (goingOn r c j) h ∙ goingOn-none r c j
+level-cons-none r c t j h = level-cons r c t j ∙ ap (going_on r c j) h ∙ going_on-none r c j
 
 -- ---- equal standings
 
@@ -39,15 +39,15 @@ same-level s (suc j) = s.at j
 pub same_refl : (r : Rules) (t : List ℕ) → Same r t t
 same_refl r t = record { at = λ j. refl }
 
-pub same-sym : {r : Rules} {t u : List ℕ} → Same r t u → Same r u t
-same-sym s = record { at = λ j. sym (s.at j) }
+pub same_sym : {r : Rules} {t u : List ℕ} → Same r t u → Same r u t
+same_sym s = record { at = λ j. sym (s.at j) }
 
-pub same-trans : {r : Rules} {t u v : List ℕ} → Same r t u → Same r u v → Same r t v
-same-trans s s' = record { at = λ j. s.at j ∙ s'.at j }
+pub same_trans : {r : Rules} {t u v : List ℕ} → Same r t u → Same r u v → Same r t v
+same_trans s s' = record { at = λ j. s.at j ∙ s'.at j }
 
 pub same-cons : {r : Rules} {t u : List ℕ} (c : ℕ) → Same r t u → Same r (c ∷ t) (c ∷ u)
 same-cons {r} {t} {u} c s =
-    record { at = λ j. level-cons r c t j ∙ ap (goingOn r c j) (same-level s j) ∙ sym (level-cons r c u j) }
+    record { at = λ j. level-cons r c t j ∙ ap (going_on r c j) (same-level s j) ∙ sym (level-cons r c u j) }
 
 -- ---- the last m bytes
 
@@ -67,11 +67,11 @@ stands-over r (c ∷ t) k (suc j) h = rw (stands-over r t k j (omega arith), and
 
 pub level-take : (r : Rules) (m : ℕ) (t : List ℕ) (j : ℕ) → j ≤ m → level r (take m t) j ≡ level r t j
 unfolding level
-level-take r m t j h = setWhere-ext (count r) _ _ (λ k _. stands-take r m t k j h)
+level-take r m t j h = set_where-ext (count r) _ _ (λ k _. stands-take r m t k j h)
 
 pub level-over : (r : Rules) (t : List ℕ) (j : ℕ) → length t < j → level r t j ≡ 0
 unfolding level
-level-over r t j h = setWhere-none (count r) _ (λ k _. stands-over r t k j h)
+level-over r t j h = set_where-none (count r) _ (λ k _. stands-over r t k j h)
 
 pub level-take-over : (r : Rules) (m : ℕ) (t : List ℕ) (j : ℕ) → m < j → level r (take m t) j ≡ 0
 level-take-over r m t j h = level-over r (take m t) j (rw length-take (omega arith))

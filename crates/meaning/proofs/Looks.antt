@@ -14,28 +14,28 @@ use Rattle.rows.proofs.Rows.{row_same, root}
 use Rattle.meaning.specs.Rules.{Rules}
 use Rattle.meaning.specs.Standing.{Same, held, out}
 use Rattle.meaning.specs.Falls.{falls}
-use Rattle.meaning.specs.Tables.{noEntry, IsFall, goesOnAt, EntryAt, columns, gotoAt, Five, Tables}
+use Rattle.meaning.specs.Tables.{no_entry, IsFall, goes_on_at, EntryAt, columns, goto_at, Five, Tables}
 use Rattle.meaning.specs.Step.{Follows, goes, falls as back_to}
 use Rattle.meaning.proofs.Levels.{same-cons}
 use Rattle.meaning.proofs.Held.{same-held}
-use Rattle.meaning.proofs.Shorter.{shorter, same-shorter, fall-row}
+use Rattle.meaning.proofs.Shorter.{shorter, same-shorter, fall_row}
 use Rattle.meaning.proofs.Next.{same-extends}
 use Rattle.meaning.proofs.Outs.{same_out}
 use Rattle.meaning.proofs.Falls.{first, on, back, move}
 use Rattle.meaning.proofs.Congruent.{congruence}
-use Rattle.meaning.proofs.Rooted.{row-empty, row_zero, row-pos, fall-lower}
+use Rattle.meaning.proofs.Rooted.{row_empty, row_zero, row_pos, fall-lower}
 
 -- Texts that ascend, with right falls, and right entries in the first b rows: what a look from one of these rows rests on.
 pub record Linked (r : Rules) (ts : List (List ℕ)) (goto : ℕ → ℕ → ℕ) (fall : ℕ → ℕ) (b : ℕ) : Type 0 where
   pub ascending : Ascending (Same r) ts
   pub root : (0 < length ts) × (get_or ts 0 [] ≡ [])
-  pub few : length ts ≤ noEntry
-  pub fall-is : (i : ℕ) → i < length ts → IsFall r ts (get_or ts i []) (fall i)
+  pub few : length ts ≤ no_entry
+  pub fall_is : (i : ℕ) → i < length ts → IsFall r ts (get_or ts i []) (fall i)
   pub entry : (i c : ℕ) → i < b → c < 256 → EntryAt r ts goto i c
 
 pub data Look (r : Rules) (ts : List (List ℕ)) (goto : ℕ → ℕ → ℕ) (fall : ℕ → ℕ) (t : List ℕ) (s c : ℕ) : Type 0 where
-  ahead : goto s c ≢ noEntry → IsRow (Same r) ts (c ∷ t) (goto s c) → falls r t c ≡ 0 → Look r ts goto fall t s c
-  behind : goto s c ≡ noEntry → fall s < s → IsRow (Same r) ts (shorter r t) (fall s) → Same r (c ∷ t) (c ∷ shorter r t)
+  ahead : goto s c ≢ no_entry → IsRow (Same r) ts (c ∷ t) (goto s c) → falls r t c ≡ 0 → Look r ts goto fall t s c
+  behind : goto s c ≡ no_entry → fall s < s → IsRow (Same r) ts (shorter r t) (fall s) → Same r (c ∷ t) (c ∷ shorter r t)
       → falls r t c ≡ suc (falls r (shorter r t) c) → Look r ts goto fall t s c
 
 module _ {r : Rules} {ts : List (List ℕ)} {goto : ℕ → ℕ → ℕ} {fall : ℕ → ℕ} {b : ℕ} (k : Linked r ts goto fall b) {c : ℕ} (byte : c < 256) where
@@ -45,14 +45,14 @@ module _ {r : Rules} {ts : List (List ℕ)} {goto : ℕ → ℕ → ℕ} {fall :
   pub look : {s : ℕ} {t : List ℕ} → s < b → IsRow (Same r) ts t s → Look r ts goto fall t s c
   look {s} {t} below x =
       elim (move r t c) [
-        | first q z ↦ goes_on (rw (eq-eqb s 0 (row_zero k.ascending k.root s t x q))) z
-        | on p q z ↦ goes_on (rw (sym (same-extends c x.same) ∙ q, or-true)) z
+        | first q z ↦ goes_on_lem (rw (eq-eqb s 0 (row_zero k.ascending k.root s t x q))) z
+        | on p q z ↦ goes_on_lem (rw (sym (same-extends c x.same) ∙ q, or-true)) z
         | back p q same z ↦
-            let some : 0 < s = row-pos k.ascending k.root s t x p in
+            let some : 0 < s = row_pos k.ascending k.root s t x p in
             let ne : s ≢ 0 = omega arith in
-            let f = k.fall-is s x.below in
+            let f = k.fall_is s x.below in
             behind (here.back (rw (ne_eqb s 0 ne, sym (same-extends c x.same) ∙ q))) (fall-lower k.ascending k.root s _ x.below some f)
-            (row_same C (same-shorter x.same) (fall-row f)) same z
+            (row_same C (same-shorter x.same) (fall_row f)) same z
       ]
     where
       u : List ℕ
@@ -61,38 +61,38 @@ module _ {r : Rules} {ts : List (List ℕ)} {goto : ℕ → ℕ → ℕ} {fall :
       here : EntryAt r ts goto s c
       here = k.entry s c below byte
 
-      goes_on : goesOnAt r ts s c ≡ true → falls r t c ≡ 0 → Look r ts goto fall t s c
-      goes_on q z = let y = here.on q in ahead (λ e. omega (arith, y.below, k.few)) (row_same C (same-cons c x.same) y) z
+      goes_on_lem : goes_on_at r ts s c ≡ true → falls r t c ≡ 0 → Look r ts goto fall t s c
+      goes_on_lem q z = let y = here.on q in ahead (λ e. omega (arith, y.below, k.few)) (row_same C (same-cons c x.same) y) z
 
   -- what a row leads to, and by how many falls
-  pub follows-row : {s n e : ℕ} → Follows goto fall c s n e → {t : List ℕ} → s < b → IsRow (Same r) ts t s → IsRow (Same r) ts (c ∷ t) e × (n ≡ falls r t c)
-  follows-row (goes ne) below x = elim (look below x) [ ahead _ y z ↦ (y, sym z) | behind q _ _ _ _ ↦ absurd (ne q) ]
-  follows-row (back_to q f) below x =
+  pub follows_row : {s n e : ℕ} → Follows goto fall c s n e → {t : List ℕ} → s < b → IsRow (Same r) ts t s → IsRow (Same r) ts (c ∷ t) e × (n ≡ falls r t c)
+  follows_row (goes ne) below x = elim (look below x) [ ahead _ y z ↦ (y, sym z) | behind q _ _ _ _ ↦ absurd (ne q) ]
+  follows_row (back_to q f) below x =
       elim (look below x) [
         | ahead ne _ _ ↦ absurd (ne q)
-        | behind _ l y same z ↦ let (row, n) = follows-row f (omega arith) y in (row_same C same row, cc)
+        | behind _ l y same z ↦ let (row, n) = follows_row f (omega arith) y in (row_same C same row, cc)
       ]
 
 -- ---- finished tables
 
 module _ {r : Rules} {b : Five} {n : ℕ} (tables : Tables r b n) where
-  pub tables-linked : n ≤ noEntry → Linked r tables.texts (gotoAt b.goto) (columns b).fall n
-  tables-linked few =
+  pub tables_linked : n ≤ no_entry → Linked r tables.texts (goto_at b.goto) (columns b).fall n
+  tables_linked few =
       let q = tables.count in record {
         ascending = tables.rows.ascending;
         root = root (congruence r) tables.rows;
         few = omega arith;
-        fall-is = tables.numbers.fall-is;
+        fall_is = tables.numbers.fall_is;
         entry = λ i c l byte. tables.gotos.entry i c (omega arith) byte;
       }
 
   -- a row's numbers are its text's
-  pub row-held : {t : List ℕ} {e : ℕ} → IsRow (Same r) tables.texts t e → (columns b).held e ≡ held r t
-  row-held x = tables.numbers.held-is _ x.below ∙ sym (same-held x.same)
+  pub row_held : {t : List ℕ} {e : ℕ} → IsRow (Same r) tables.texts t e → (columns b).held e ≡ held r t
+  row_held x = tables.numbers.held_is _ x.below ∙ sym (same-held x.same)
 
   pub row_out : {t : List ℕ} {e : ℕ} → IsRow (Same r) tables.texts t e → (columns b).out e ≡ out r t
-  row_out x = tables.numbers.out-is _ x.below ∙ sym (same_out x.same)
+  row_out x = tables.numbers.out_is _ x.below ∙ sym (same_out x.same)
 
   -- row 0 is the row of the empty text
   pub row_first : IsRow (Same r) tables.texts [] 0
-  row_first = row-empty tables.rows.ascending (root (congruence r) tables.rows)
+  row_first = row_empty tables.rows.ascending (root (congruence r) tables.rows)

@@ -45,8 +45,8 @@ alike_same {r} {m} {t} {u} ht hu x = record {
 pub same_alike : {r : Rules} {t u : List ℕ} (m : ℕ) → Same r t u → T (alike r m t u)
 same_alike {r} {t} {u} m s = below_all m _ (λ j. rw (s.at j) (eqb_refl (level r u (suc j))))
 
-pub same-decided : (r : Rules) (t u : List ℕ) → Dec (Same r t u)
-same-decided r t u = go (alike r m t u) (alike_same (omega arith) (omega arith)) (same_alike m)
+pub same_decided : (r : Rules) (t u : List ℕ) → Dec (Same r t u)
+same_decided r t u = go (alike r m t u) (alike_same (omega arith) (omega arith)) (same_alike m)
   where
     m : ℕ
     m = length t + length u

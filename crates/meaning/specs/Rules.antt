@@ -32,14 +32,14 @@ abbrev pub FitsSymbols : Type 0
 FitsSymbols = (r : Rules) (c : ℕ) → FitsSymbol r c
 
 -- rule k has a symbol j, and the byte c fits it
-unfoldable pub fitsAt : Rules → ℕ → ℕ → ℕ → Bool
-fitsAt r c k j = ltb j (size r k) && fits r c (symbol r k j)
+unfoldable pub fits_at : Rules → ℕ → ℕ → ℕ → Bool
+fits_at r c k j = ltb j (size r k) && fits r c (symbol r k j)
 
 -- the last j bytes of the text fit the first j symbols of rule k
 unfoldable pub stands : Rules → List ℕ → ℕ → ℕ → Bool
 stands r t k zero = true
 stands r [] k (suc j) = false
-stands r (c ∷ t) k (suc j) = fitsAt r c k j && stands r t k j
+stands r (c ∷ t) k (suc j) = fits_at r c k j && stands r t k j
 
 -- the same by index: byte i of the last j, as they are read, is number j - 1 - i of the text, whose latest byte is number 0
 pub record Fits (r : Rules) (t : List ℕ) (k j : ℕ) : Type 0 where

@@ -1,11 +1,11 @@
 -- The standing of a text: the pairs (k, j), j at least 1, such that the last j bytes of the text fit the first j symbols of rule k. Assumes nothing.
 use Rattle.std.specs.Prelude.{◌≡◌, Bool, ◌&&◌, not, cond, List, ℕ, zero, suc, ltb, eqb, length}
-use Rattle.sets.specs.Sets.{has, setWhere}
-use Rattle.meaning.specs.Rules.{Rules, count, size, fitsAt, stands}
+use Rattle.sets.specs.Sets.{has, set_where}
+use Rattle.meaning.specs.Rules.{Rules, count, size, fits_at, stands}
 
 -- the rules k with (k, j) in the standing of the text, for j at least 1
 unfoldable pub level : Rules → List ℕ → ℕ → ℕ
-level r t j = setWhere (count r) (λ k. stands r t k j)
+level r t j = set_where (count r) (λ k. stands r t k j)
 
 -- two texts have one standing
 pub record Same (r : Rules) (t u : List ℕ) : Type 0 where
@@ -33,12 +33,12 @@ pub record Shorter (r : Rules) (t u : List ℕ) : Type 0 where
   pub at : (j : ℕ) → level r u (suc j) ≡ cond (eqb (suc j) (held r t)) 0 (level r t (suc j))
 
 -- the rules of the set s that have a symbol j, which the byte c fits
-unfoldable pub goingOn : Rules → ℕ → ℕ → ℕ → ℕ
-goingOn r c j s = setWhere (count r) (λ k. fitsAt r c k j && has s k)
+unfoldable pub going_on : Rules → ℕ → ℕ → ℕ → ℕ
+going_on r c j s = set_where (count r) (λ k. fits_at r c k j && has s k)
 
 -- some pair (k, held length) has a next symbol that c fits
 unfoldable pub extends : Rules → List ℕ → ℕ → Bool
-extends r t c = not (eqb (goingOn r c (held r t) (live r t)) 0)
+extends r t c = not (eqb (going_on r c (held r t) (live r t)) 0)
 
 -- rule k occurs in the text and ends where the text ends: (k, length of k) is in the standing
 unfoldable pub ends : Rules → List ℕ → ℕ → Bool
@@ -46,4 +46,4 @@ ends r t k = ltb 0 (size r k) && stands r t k (size r k)
 
 -- the rules that end where the text ends
 unfoldable pub out : Rules → List ℕ → ℕ
-out r t = setWhere (count r) (ends r t)
+out r t = set_where (count r) (ends r t)

@@ -2,29 +2,29 @@
 use mathlib.Core.Path.{refl}
 use mathlib.Core.List.{[], ◌∷◌, ◌++◌}
 use lib.ListN.{replicate}
-use Rattle.rows.proofs.Bytes.{isBytes}
-use Rattle.sets.specs.Sets.{has, setWhere, those, members, reports}
-use Rattle.meaning.specs.Rules.{fits, fitsAt, stands}
+use Rattle.rows.proofs.Bytes.{is_bytes}
+use Rattle.sets.specs.Sets.{has, set_where, those, members, reports}
+use Rattle.meaning.specs.Rules.{fits, fits_at, stands}
 use Rattle.meaning.specs.Standing.{level, opens, largest, held, ends, out}
-use Rattle.meaning.specs.Falls.{longest, nextLongest, fitsWith, fallsFrom, falls, fallsIn}
+use Rattle.meaning.specs.Falls.{longest, next_longest, fits_with, falls_from, falls, falls_in}
 use Rattle.book.specs.Content.{Content, member}
 use Rattle.format.specs.Largest.{repeated}
-use Rattle.book.specs.Grown.{symbolsOf}
-use Rattle.format.specs.Format.{meaningOf, fields, follow, ended, field_at, field_of, headAt, ruleField, outcome, judgeRule, judgeSymbol, first_of, judgeSymbols}
+use Rattle.book.specs.Grown.{symbols_of}
+use Rattle.format.specs.Format.{meaning_of, fields, follow, ended, field_at, field_of, head_at, rule_field, outcome, judge_rule, judge_symbol, first_of, judge_symbols}
 use Rattle.walk.specs.Walk.{written}
-use Rattle.meaning.proofs.Occurrences.{occurrencesFrom}
+use Rattle.meaning.proofs.Occurrences.{occurrences_from}
 use Rattle.numbers.specs.Cases.{All, none, also}
-use Rattle.numbers.specs.Many.{bytesM, many}
+use Rattle.numbers.specs.Many.{bytes_m, many}
 use Rattle.numbers.proofs.Books.{Means}
 use Rattle.numbers.proofs.Walks.{fitting, lacking}
 
-abbrev contentM : Content
-contentM = record { pictures = []; rules = replicate 64 (97 ∷ []) ++ (98 ∷ []) ∷ [] }
+abbrev content_m : Content
+content_m = record { pictures = []; rules = replicate 64 (97 ∷ []) ++ (98 ∷ []) ∷ [] }
 
-means-M : Means bytesM contentM
-unfolding repeated meaningOf fields follow ended field_at field_of headAt ruleField outcome judgeRule judgeSymbols judgeSymbol first_of symbolsOf
+means-M : Means bytes_m content_m
+unfolding repeated meaning_of fields follow ended field_at field_of head_at rule_field outcome judge_rule judge_symbols judge_symbol first_of symbols_of
 means-M = record { meant = refl }
 
 pub numbers-many : All many
-unfolding isBytes member has setWhere those members reports fits fitsAt stands level opens largest held ends out longest nextLongest fitsWith fallsFrom falls fallsIn occurrencesFrom written
+unfolding is_bytes member has set_where those members reports fits fits_at stands level opens largest held ends out longest next_longest fits_with falls_from falls falls_in occurrences_from written
 numbers-many = also (fitting means-M refl refl) (also (lacking means-M refl refl) none)

@@ -1,14 +1,14 @@
 -- The paper's numbers to check by, as one table: cases 1 to 12, each of the promises and the definitions, from the books' bytes. Assumes nothing.
 use Rattle.std.specs.Prelude.{◌≡◌, List, [], ◌∷◌, ◌≢◌, ℕ, ◌≤◌, length, take, drop, set, replicate}
-use Rattle.sets.specs.Table.{rowWords}
+use Rattle.sets.specs.Table.{row_words}
 use Rattle.meaning.specs.Tables.{Five}
-use Rattle.book.specs.Limits.{mostRules, mostRows}
+use Rattle.book.specs.Limits.{most_rules, most_rows}
 use Rattle.lent.specs.Lent.{five, lent, zeroed}
 use Rattle.promised.specs.Promise.{number_of, value_of, Promise}
 use Rattle.promised.specs.declared.Built.{Built}
-use Rattle.listed.specs.Demands.{WalkCall, reportsAfter, WalkAnswers}
-use Rattle.summed.specs.Totals.{TallyCall, sumsAfter, TallyAnswers}
-use Rattle.numbers.specs.Inputs.{bytesA, bytesAA, bytesX, bytesY, aabab, aabbx, aab1, aab1-ab-3, a-01}
+use Rattle.listed.specs.Demands.{WalkCall, reports_after, WalkAnswers}
+use Rattle.summed.specs.Totals.{TallyCall, sums_after, TallyAnswers}
+use Rattle.numbers.specs.Inputs.{bytes_a, bytes_aa, bytes_x, bytes_y, aabab, aabbx, aab1, aab1_ab_3, a_01}
 
 -- ---- the table
 
@@ -19,7 +19,7 @@ pub data Left : Type 0 where
   tables : List ℕ → List ℕ → Left
 
 pub data Case : Type 0 where
-  -- a book and the rows lent, from the fewest to the most (no buffers lend more than `mostRows`); the number and the value of the build's answer, and what it leaves
+  -- a book and the rows lent, from the fewest to the most (no buffers lend more than `most_rows`); the number and the value of the build's answer, and what it leaves
   build : List ℕ → ℕ → ℕ → ℕ → ℕ → Left → Case
   -- a book, a text and a report buffer; the number and the values of the walk's answer, and the report buffer after it
   walk : List ℕ → List ℕ → List ℕ → ℕ → List ℕ → List ℕ → Case
@@ -33,32 +33,32 @@ pub data Case : Type 0 where
 abbrev pub cases : List Case
 cases =
     -- 1: the empty book, whichever rows are lent
-    build [] 0 mostRows 9 0 found
+    build [] 0 most_rows 9 0 found
     -- 2: the rule a, with rows enough and with one row
-    ∷ build bytesA 2 mostRows 0 2 (tables (0 ∷ 1 ∷ []) (0 ∷ 0 ∷ []))
-    ∷ build bytesA 1 1 10 1 cleared
+    ∷ build bytes_a 2 most_rows 0 2 (tables (0 ∷ 1 ∷ []) (0 ∷ 0 ∷ []))
+    ∷ build bytes_a 1 1 10 1 cleared
     -- 3: X
-    ∷ build bytesX 9 mostRows 0 9 (tables (0 ∷ 1 ∷ 2 ∷ 2 ∷ 3 ∷ 3 ∷ 4 ∷ 4 ∷ 4 ∷ []) (0 ∷ 0 ∷ 1 ∷ 0 ∷ 3 ∷ 0 ∷ 1 ∷ 5 ∷ 0 ∷ []))
+    ∷ build bytes_x 9 most_rows 0 9 (tables (0 ∷ 1 ∷ 2 ∷ 2 ∷ 3 ∷ 3 ∷ 4 ∷ 4 ∷ 4 ∷ []) (0 ∷ 0 ∷ 1 ∷ 0 ∷ 3 ∷ 0 ∷ 1 ∷ 5 ∷ 0 ∷ []))
     -- 4: Y
-    ∷ build bytesY 9 mostRows 0 9 (tables (0 ∷ 1 ∷ 1 ∷ 2 ∷ 2 ∷ 2 ∷ 2 ∷ 3 ∷ 3 ∷ []) (0 ∷ 0 ∷ 0 ∷ 0 ∷ 1 ∷ 2 ∷ 2 ∷ 6 ∷ 2 ∷ []))
+    ∷ build bytes_y 9 most_rows 0 9 (tables (0 ∷ 1 ∷ 1 ∷ 2 ∷ 2 ∷ 2 ∷ 2 ∷ 3 ∷ 3 ∷ []) (0 ∷ 0 ∷ 0 ∷ 0 ∷ 1 ∷ 2 ∷ 2 ∷ 6 ∷ 2 ∷ []))
     -- 5: X on aabab
-    ∷ walk bytesX aabab (7 ∷ 7 ∷ 7 ∷ []) 0 (1 ∷ 1 ∷ 2 ∷ []) (4 ∷ 0 ∷ 7 ∷ [])
+    ∷ walk bytes_x aabab (7 ∷ 7 ∷ 7 ∷ []) 0 (1 ∷ 1 ∷ 2 ∷ []) (4 ∷ 0 ∷ 7 ∷ [])
     -- 6: X on aabbx
-    ∷ walk bytesX aabbx (7 ∷ 7 ∷ 7 ∷ 7 ∷ []) 0 (2 ∷ 1 ∷ 4 ∷ []) (4 ∷ 0 ∷ 5 ∷ 0 ∷ [])
+    ∷ walk bytes_x aabbx (7 ∷ 7 ∷ 7 ∷ 7 ∷ []) 0 (2 ∷ 1 ∷ 4 ∷ []) (4 ∷ 0 ∷ 5 ∷ 0 ∷ [])
     -- 7: Y on aab1, and with room for one report
-    ∷ walk bytesY aab1 (7 ∷ 7 ∷ 7 ∷ 7 ∷ []) 0 (2 ∷ 2 ∷ 2 ∷ []) (3 ∷ 2 ∷ 4 ∷ 0 ∷ [])
-    ∷ walk bytesY aab1 (7 ∷ 7 ∷ 7 ∷ []) 14 (2 ∷ []) (7 ∷ 7 ∷ 7 ∷ [])
+    ∷ walk bytes_y aab1 (7 ∷ 7 ∷ 7 ∷ 7 ∷ []) 0 (2 ∷ 2 ∷ 2 ∷ []) (3 ∷ 2 ∷ 4 ∷ 0 ∷ [])
+    ∷ walk bytes_y aab1 (7 ∷ 7 ∷ 7 ∷ []) 14 (2 ∷ []) (7 ∷ 7 ∷ 7 ∷ [])
     -- 8: two rules a, on a
-    ∷ walk bytesAA (97 ∷ []) (7 ∷ 7 ∷ 7 ∷ 7 ∷ []) 0 (2 ∷ 0 ∷ 1 ∷ []) (1 ∷ 0 ∷ 1 ∷ 1 ∷ [])
+    ∷ walk bytes_aa (97 ∷ []) (7 ∷ 7 ∷ 7 ∷ 7 ∷ []) 0 (2 ∷ 0 ∷ 1 ∷ []) (1 ∷ 0 ∷ 1 ∷ 1 ∷ [])
     -- 9: X on the empty text
-    ∷ walk bytesX [] (7 ∷ 7 ∷ []) 0 (0 ∷ 0 ∷ 0 ∷ []) (7 ∷ 7 ∷ [])
+    ∷ walk bytes_x [] (7 ∷ 7 ∷ []) 0 (0 ∷ 0 ∷ 0 ∷ []) (7 ∷ 7 ∷ [])
     -- 10: N = 1, all tables 0, on a; and with 65535 at row 0, a
     ∷ row 0 (97 ∷ []) (7 ∷ 7 ∷ []) 0 (0 ∷ 0 ∷ 0 ∷ []) (7 ∷ 7 ∷ [])
     ∷ row 65535 (97 ∷ []) (7 ∷ 7 ∷ []) 13 (0 ∷ []) (7 ∷ 7 ∷ [])
     -- 11: Y on aab1;ab 3
-    ∷ tally bytesY aab1-ab-3 0 0 (3 ∷ 0 ∷ 3 ∷ replicate 253 0)
+    ∷ tally bytes_y aab1_ab_3 0 0 (3 ∷ 0 ∷ 3 ∷ replicate 253 0)
     -- 12: a 01
-    ∷ refusal a-01 15 0
+    ∷ refusal a_01 15 0
     ∷ []
 
 -- ---- what it says
@@ -77,22 +77,22 @@ pub record Answered (old b : Five) (x : Built) (number value : ℕ) (left : Left
 -- a call of the walk gives this answer and this report buffer
 pub record Gives (w : WalkCall) (number : ℕ) (values buffer : List ℕ) : Type 0 where
   pub answers : WalkAnswers w number values
-  pub leaves : reportsAfter w ≡ buffer
+  pub leaves : reports_after w ≡ buffer
 
 -- a call of the tally gives this answer and these sums, and later places are as found
 pub record Adds (w : TallyCall) (number value : ℕ) (sums : List ℕ) : Type 0 where
   pub answers : TallyAnswers w number value
-  pub sums-are : take mostRules (sumsAfter w) ≡ sums
-  pub later-are : drop mostRules (sumsAfter w) ≡ drop mostRules w.sums
+  pub sums_are : take most_rules (sums_after w) ≡ sums
+  pub later_are : drop most_rules (sums_after w) ≡ drop most_rules w.sums
 
 -- a call of the tally is refused so, and the whole sums buffer is as found
 pub record Refused (w : TallyCall) (number value : ℕ) : Type 0 where
   pub answers : TallyAnswers w number value
-  pub found : sumsAfter w ≡ w.sums
+  pub found : sums_after w ≡ w.sums
 
 -- one row, with an entry at `a`
 abbrev pub lone : ℕ → Five
-lone e = five (set (replicate 256 0) 97 e) (0 ∷ []) (0 ∷ []) (replicate rowWords 0) (replicate rowWords 0)
+lone e = five (set (replicate 256 0) 97 e) (0 ∷ []) (0 ∷ []) (replicate row_words 0) (replicate row_words 0)
 
 -- A build: of all buffers lent and all that keeps the promise. A walk or a tally of a book: over whatever buffers a build of it left which gave 0, with the
 -- value that it gave. A tally: with any sums buffer of at least 256 places; one that is refused for its profile, over any tables with some rows that are lent.
@@ -102,9 +102,9 @@ Holds (build bytes fewest most number value left) = (old b : Five) (x : Built) �
 Holds (walk bytes text reports number values buffer) = (old b : Five) (x : Built) → Promise bytes old b x → number_of x ≡ 0
     → Gives (record { tables = b; n = value_of x; text = text; reports = reports }) number values buffer
 Holds (row e text reports number values buffer) = Gives (record { tables = lone e; n = 1; text = text; reports = reports }) number values buffer
-Holds (tally bytes profile number value sums) = (old b : Five) (x : Built) → Promise bytes old b x → number_of x ≡ 0 → (buffer : List ℕ) → mostRules ≤ length buffer
+Holds (tally bytes profile number value sums) = (old b : Five) (x : Built) → Promise bytes old b x → number_of x ≡ 0 → (buffer : List ℕ) → most_rules ≤ length buffer
     → Adds (record { tables = b; n = value_of x; profile = profile; sums = buffer }) number value sums
-Holds (refusal profile number value) = (b : Five) (n : ℕ) (buffer : List ℕ) → n ≢ 0 → n ≤ lent b → mostRules ≤ length buffer
+Holds (refusal profile number value) = (b : Five) (n : ℕ) (buffer : List ℕ) → n ≢ 0 → n ≤ lent b → most_rules ≤ length buffer
     → Refused (record { tables = b; n = n; profile = profile; sums = buffer }) number value
 
 pub data All : List Case → Type 0 where

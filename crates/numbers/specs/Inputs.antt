@@ -4,12 +4,12 @@ use Rattle.std.specs.Prelude.{List, [], ◌∷◌, ◌++◌, ℕ}
 -- ---- books
 
 -- the rule `a`
-abbrev pub bytesA : List ℕ
-bytesA = 0x52 ∷ 0 ∷ 2 ∷ 0 ∷ 97 ∷ []
+abbrev pub bytes_a : List ℕ
+bytes_a = 0x52 ∷ 0 ∷ 2 ∷ 0 ∷ 97 ∷ []
 
 -- two rules `a`
-abbrev pub bytesAA : List ℕ
-bytesAA = bytesA ++ bytesA
+abbrev pub bytes_aa : List ℕ
+bytes_aa = bytes_a ++ bytes_a
 
 -- a to z
 abbrev pub letters : List ℕ
@@ -17,12 +17,12 @@ letters =
     97 ∷ 98 ∷ 99 ∷ 100 ∷ 101 ∷ 102 ∷ 103 ∷ 104 ∷ 105 ∷ 106 ∷ 107 ∷ 108 ∷ 109 ∷ 110 ∷ 111 ∷ 112 ∷ 113 ∷ 114 ∷ 115 ∷ 116 ∷ 117 ∷ 118 ∷ 119 ∷ 120 ∷ 121 ∷ 122 ∷ []
 
 -- X: the picture a to z; the rule `a`, picture, `b`, picture
-abbrev pub bytesX : List ℕ
-bytesX = 0x50 ∷ 0 ∷ 26 ∷ letters ++ 0x52 ∷ 0 ∷ 8 ∷ 0 ∷ 97 ∷ 1 ∷ 0 ∷ 0 ∷ 98 ∷ 1 ∷ 0 ∷ []
+abbrev pub bytes_x : List ℕ
+bytes_x = 0x50 ∷ 0 ∷ 26 ∷ letters ++ 0x52 ∷ 0 ∷ 8 ∷ 0 ∷ 97 ∷ 1 ∷ 0 ∷ 0 ∷ 98 ∷ 1 ∷ 0 ∷ []
 
 -- Y: the picture a to z; the rules picture, `1`; `a`, picture, `c`; `a`, `b`
-abbrev pub bytesY : List ℕ
-bytesY =
+abbrev pub bytes_y : List ℕ
+bytes_y =
     0x50 ∷ 0 ∷ 26 ∷ letters ++ 0x52 ∷ 0 ∷ 4 ∷ 1 ∷ 0 ∷ 0 ∷ 49 ∷ 0x52 ∷ 0 ∷ 6 ∷ 0 ∷ 97 ∷ 1 ∷ 0 ∷ 0 ∷ 99 ∷ 0x52 ∷ 0 ∷ 4 ∷ 0 ∷ 97 ∷ 0 ∷ 98 ∷ []
 
 -- ---- texts
@@ -39,9 +39,9 @@ aab1 = 97 ∷ 97 ∷ 98 ∷ 49 ∷ []
 -- ---- profiles
 
 -- `aab1;ab 3`
-abbrev pub aab1-ab-3 : List ℕ
-aab1-ab-3 = aab1 ++ 59 ∷ 97 ∷ 98 ∷ 32 ∷ 51 ∷ []
+abbrev pub aab1_ab_3 : List ℕ
+aab1_ab_3 = aab1 ++ 59 ∷ 97 ∷ 98 ∷ 32 ∷ 51 ∷ []
 
 -- `a 01`
-abbrev pub a-01 : List ℕ
-a-01 = 97 ∷ 32 ∷ 48 ∷ 49 ∷ []
+abbrev pub a_01 : List ℕ
+a_01 = 97 ∷ 32 ∷ 48 ∷ 49 ∷ []

@@ -1,11 +1,11 @@
 // One byte's move over tables: looks, and falls, until one look goes to a row; and the rules that a row reports.
+#![tactic(auto)]
 
 ghost use Rattle.std.specs.Prelude.{◌≡◌, ◌+◌, ◌*◌, ◌≤◌, ◌<◌, length, get_or};
-ghost use Rattle.moments.specs.Moments.{was};
-ghost use Rattle.sets.specs.Sets.{setOf};
-ghost use Rattle.sets.specs.Table.{rowWords, rulesAt};
-ghost use Rattle.meaning.specs.Tables.{gotoAt};
-ghost use Rattle.one_byte.specs.Move.{Lent, unwritten, moveFrom, isShort, move_of};
+ghost use Rattle.sets.specs.Sets.{set_of};
+ghost use Rattle.sets.specs.Table.{row_words, rules_at};
+ghost use Rattle.meaning.specs.Tables.{goto_at};
+ghost use Rattle.one_byte.specs.Move.{Lent, unwritten, move_from, is_short, move_of};
 
 use book::Book;
 use words::{Set, WORDS};
@@ -29,14 +29,14 @@ fn wide(x: u16) -> usize
 // A row's entry on a byte, and the row that it falls to.
 fn entry_at(goto: &[u16], row: usize, byte: u8) -> usize
     requires { 256 * row + 256 ≤ length goto.now }
-    ensures { result ≡ gotoAt (was goto) row byte }
+    ensures { result ≡ goto_at goto.now row byte }
 {
     wide(goto[256 * row + byte as usize])
 }
 
 fn fall_at(fall: &[u16], row: usize) -> usize
     requires { row < length fall.now }
-    ensures { result ≡ get_or (was fall) row 0 }
+    ensures { result ≡ get_or fall.now row 0 }
 {
     wide(fall[row])
 }
@@ -54,7 +54,7 @@ pub fn is_unwritten(n: usize, row: usize, entry: usize, to: usize) -> bool
 // Looks until one is no fall.
 fn move_from(goto: &[u16], fall: &[u16], n: usize, from: usize, byte: u8) -> Moved
     requires { Lent goto.now fall.now n × (from < n) }
-    ensures { result ≡ moveFrom (was goto) (was fall) n from byte 0 }
+    ensures { result ≡ move_from goto.now fall.now n from byte 0 }
 {
     let mut row = from;
     let mut falls = 0;
@@ -74,7 +74,7 @@ fn move_from(goto: &[u16], fall: &[u16], n: usize, from: usize, byte: u8) -> Mov
 
 // Whether a row is none of n rows, or no tables have so many, or these have fewer.
 fn is_short(goto: &[u16], fall: &[u16], n: usize, row: usize) -> bool
-    ensures { result ≡ isShort (was goto) (was fall) n row }
+    ensures { result ≡ is_short goto.now fall.now n row }
 {
     if n <= row {
         return true;
@@ -90,7 +90,7 @@ fn is_short(goto: &[u16], fall: &[u16], n: usize, row: usize) -> bool
 
 // One byte's move. Where the row is none of n rows, or the tables have fewer, it is lost too.
 pub fn move_on(goto: &[u16], fall: &[u16], n: usize, from: usize, byte: u8) -> Moved
-    ensures { result ≡ move_of (was goto) (was fall) n from byte }
+    ensures { result ≡ move_of goto.now fall.now n from byte }
 {
     if is_short(goto, fall, n, from) {
         return Moved::Lost;
@@ -100,7 +100,7 @@ pub fn move_on(goto: &[u16], fall: &[u16], n: usize, from: usize, byte: u8) -> M
 
 // The rules that a row reports; none where the table has no such row.
 pub fn rules(out: &[u64], row: usize) -> Set
-    ensures { (setOf result ≡ rulesAt (was out) row) × (length result ≡ rowWords) }
+    ensures { (set_of result ≡ rules_at out.now row) × (length result ≡ row_words) }
 {
     let mut set = words::none();
     if out.len() <= row {

@@ -9,22 +9,22 @@ use native.Mathlib.Omega.{arith}
 use borrow.Author.Tests.{lt-ltb, le-ltb}
 use lib.ListN.{length, length-append}
 use lib.Seq.{sets, length-sets, set_out}
-use Rattle.sets.proofs.Members.{sets-append}
+use Rattle.sets.proofs.Members.{sets_append}
 use Rattle.io.specs.Digits.{hex_digit_ascii, last_digits, IsDigitCount}
-use Rattle.output.specs.Printed.{Puts, numeral, numeralIn}
+use Rattle.output.specs.Printed.{Puts, numeral, numeral_in}
 
 -- ---- a run of stores
 
 -- past the end nothing is stored
-pub sets-past : (vs l : List ℕ) (i : ℕ) → length l ≤ i → sets l i vs ≡ l
-sets-past [] l i h = refl
-sets-past (v ∷ vs) l i h = ap (λ m. sets m (suc i) vs) (set_out l i v h) ∙ sets-past vs l (suc i) (omega arith)
+pub sets_past : (vs l : List ℕ) (i : ℕ) → length l ≤ i → sets l i vs ≡ l
+sets_past [] l i h = refl
+sets_past (v ∷ vs) l i h = ap (λ m. sets m (suc i) vs) (set_out l i v h) ∙ sets_past vs l (suc i) (omega arith)
 
 pub puts_none : {l : List ℕ} {at : ℕ} → Puts [] l at l at
 puts_none = record { filled = refl; behind = omega arith }
 
-pub puts-append : {xs ys l₀ l₁ l₂ : List ℕ} {at r₁ r₂ : ℕ} → Puts xs l₀ at l₁ r₁ → Puts ys l₁ r₁ l₂ r₂ → Puts (xs ++ ys) l₀ at l₂ r₂
-puts-append {xs} {ys} {l₀} {l₁} {l₂} {at} {r₁} {r₂} p q = record {
+pub puts_append : {xs ys l₀ l₁ l₂ : List ℕ} {at r₁ r₂ : ℕ} → Puts xs l₀ at l₁ r₁ → Puts ys l₁ r₁ l₂ r₂ → Puts (xs ++ ys) l₀ at l₂ r₂
+puts_append {xs} {ys} {l₀} {l₁} {l₂} {at} {r₁} {r₂} p q = record {
   filled = q.filled ∙ ap (λ l. sets l r₁ ys) p.filled ∙ elim (dec_lt (length l₀ - at) (length xs)) [ yes m ↦ full m | no m ↦ fits (omega arith) ];
   behind = let many = length-append xs ys in rw many (omega (arith, long, p.behind, q.behind));
 }
@@ -33,29 +33,29 @@ puts-append {xs} {ys} {l₀} {l₁} {l₂} {at} {r₁} {r₂} p q = record {
     long = ap length p.filled ∙ length-sets l₀ at xs
 
     fits : length xs ≤ length l₀ - at → sets (sets l₀ at xs) r₁ ys ≡ sets l₀ at (xs ++ ys)
-    fits m = let e : r₁ ≡ at + length xs = omega (arith, p.behind) in rw e (sym (sets-append l₀ xs ys at))
+    fits m = let e : r₁ ≡ at + length xs = omega (arith, p.behind) in rw e (sym (sets_append l₀ xs ys at))
 
     full : length l₀ - at < length xs → sets (sets l₀ at xs) r₁ ys ≡ sets l₀ at (xs ++ ys)
     full m =
         let end = length-sets l₀ at xs in
-        sets-past ys (sets l₀ at xs) r₁ (omega (arith, p.behind, end))
-        ∙ sym (sets-append l₀ xs ys at ∙ sets-past ys (sets l₀ at xs) (at + length xs) (omega (arith, end)))
+        sets_past ys (sets l₀ at xs) r₁ (omega (arith, p.behind, end))
+        ∙ sym (sets_append l₀ xs ys at ∙ sets_past ys (sets l₀ at xs) (at + length xs) (omega (arith, end)))
 
 -- ---- a number's digits
 
-glyph-digit : (d : ℕ) → d < 10 → hex_digit_ascii d ≡ 48 + d
-glyph-digit d h = rw (lt-ltb d 10 h) refl
+glyph_digit : (d : ℕ) → d < 10 → hex_digit_ascii d ≡ 48 + d
+glyph_digit d h = rw (lt-ltb d 10 h) refl
 
-digits-numeral : (k t n : ℕ) → k ≤ t → IsDigitCount 10 1 n (suc k) → last_digits 10 (suc k) n ≡ numeralIn t n
-unfolding numeralIn
-digits-numeral zero zero n h f = ap (λ d. d ∷ []) (glyph-digit (n % 10) (omega arith))
-digits-numeral zero (suc t) n h (p, q, r) = let e : n % 10 ≡ n = omega arith in rw (lt-ltb n 10 (omega arith), e) (ap (λ d. d ∷ []) (glyph-digit n (omega arith)))
+digits-numeral : (k t n : ℕ) → k ≤ t → IsDigitCount 10 1 n (suc k) → last_digits 10 (suc k) n ≡ numeral_in t n
+unfolding numeral_in
+digits-numeral zero zero n h f = ap (λ d. d ∷ []) (glyph_digit (n % 10) (omega arith))
+digits-numeral zero (suc t) n h (p, q, r) = let e : n % 10 ≡ n = omega arith in rw (lt-ltb n 10 (omega arith), e) (ap (λ d. d ∷ []) (glyph_digit n (omega arith)))
 digits-numeral (suc k) (suc t) n h (p, q, r) =
     let least = simp unary_clauses at (r (omega arith)) in
     let most = simp unary_clauses at q in
     let large : 10 ≤ n = omega (arith, least, one-le-pow k 10 (omega arith)) in
     let rest : IsDigitCount 10 1 (n / 10) (suc k) = (omega arith, rw (pow-suc 10 k) (omega (arith, most)), λ _. simp unary_clauses (omega (arith, least))) in
-    rw (le-ltb n 10 large) (ap₂ (λ ds d. ds ++ (d ∷ [])) (digits-numeral k t (n / 10) (omega arith) rest) (glyph-digit (n % 10) (omega arith)))
+    rw (le-ltb n 10 large) (ap₂ (λ ds d. ds ++ (d ∷ [])) (digits-numeral k t (n / 10) (omega arith) rest) (glyph_digit (n % 10) (omega arith)))
 digits-numeral (suc k) zero n h f = absurd (omega arith)
 
 -- 10 ^ 20 is more than any number of 64 bits

@@ -12,34 +12,34 @@ pub record Puts (bytes before : List ℕ) (at : ℕ) (after : List ℕ) (r : ℕ
 -- ---- a number
 
 -- n in decimal, with at most k digits before its last
-unfoldable pub numeralIn : ℕ → ℕ → List ℕ
-numeralIn zero n = (48 + n % 10) ∷ []
-numeralIn (suc k) n = cond (ltb n 10) ((48 + n) ∷ []) (numeralIn k (n / 10) ++ ((48 + n % 10) ∷ []))
+unfoldable pub numeral_in : ℕ → ℕ → List ℕ
+numeral_in zero n = (48 + n % 10) ∷ []
+numeral_in (suc k) n = cond (ltb n 10) ((48 + n) ∷ []) (numeral_in k (n / 10) ++ ((48 + n % 10) ∷ []))
 
 -- a number of 64 bits in decimal
 abbrev pub numeral : ℕ → List ℕ
-numeral n = numeralIn 19 n
+numeral n = numeral_in 19 n
 
 -- ---- a line
 
 -- two numbers, each behind a word
-abbrev pub pairLine : List ℕ → ℕ → List ℕ → ℕ → List ℕ
-pairLine first a second b = first ++ numeral a ++ second ++ numeral b ++ (10 ∷ [])
+abbrev pub pair_line : List ℕ → ℕ → List ℕ → ℕ → List ℕ
+pair_line first a second b = first ++ numeral a ++ second ++ numeral b ++ (10 ∷ [])
 
 -- `refused NUMBER VALUE`
-abbrev pub refusedLine : ℕ → ℕ → List ℕ
-refusedLine number value = pairLine (114 ∷ 101 ∷ 102 ∷ 117 ∷ 115 ∷ 101 ∷ 100 ∷ 32 ∷ []) number (32 ∷ []) value
+abbrev pub refused_line : ℕ → ℕ → List ℕ
+refused_line number value = pair_line (114 ∷ 101 ∷ 102 ∷ 117 ∷ 115 ∷ 101 ∷ 100 ∷ 32 ∷ []) number (32 ∷ []) value
 
 -- `rows ROWS`
-abbrev pub rowsLine : ℕ → List ℕ
-rowsLine rows = (114 ∷ 111 ∷ 119 ∷ 115 ∷ 32 ∷ []) ++ numeral rows ++ (10 ∷ [])
+abbrev pub rows_line : ℕ → List ℕ
+rows_line rows = (114 ∷ 111 ∷ 119 ∷ 115 ∷ 32 ∷ []) ++ numeral rows ++ (10 ∷ [])
 
 -- of a build, by its number and value
-abbrev pub builtLine : ℕ → ℕ → List ℕ
-builtLine number value = cond (eqb number 0) (rowsLine value) (refusedLine number value)
+abbrev pub built_line : ℕ → ℕ → List ℕ
+built_line number value = cond (eqb number 0) (rows_line value) (refused_line number value)
 
 -- ---- an answer
 
 -- the line of a build and, where it is accepted, the lines of what came after it
-abbrev pub answerLines : ℕ → ℕ → List ℕ → List ℕ
-answerLines number value more = builtLine number value ++ cond (eqb number 0) more []
+abbrev pub answer_lines : ℕ → ℕ → List ℕ → List ℕ
+answer_lines number value more = built_line number value ++ cond (eqb number 0) more []

@@ -1,13 +1,13 @@
 // The answer that a program writes: its lines are put into a buffer, and all of them are written at once.
+#![tactic(auto)]
 
-ghost use Rattle.moments.specs.Moments.{was, left};
-ghost use Rattle.output.specs.Printed.{Puts, numeral, pairLine, refusedLine, builtLine};
+ghost use Rattle.output.specs.Printed.{Puts, numeral, pair_line, refused_line, built_line};
 
 use libc::{STDERR_FILENO, STDOUT_FILENO};
 
 // Puts bytes into the buffer from a place on, as many as there is room for. Answers the place behind them.
 pub fn put(out: &mut [u8], at: usize, bytes: &[u8]) -> usize
-    ensures { Puts (was bytes) (was out) at (left out) result }
+    ensures { Puts bytes.now out.old at out.new result }
 {
     let mut to = at;
     let mut i = 0;
@@ -24,7 +24,7 @@ pub fn put(out: &mut [u8], at: usize, bytes: &[u8]) -> usize
 
 // The same for a number, in decimal.
 pub fn put_number(out: &mut [u8], at: usize, n: u64) -> usize
-    ensures { Puts (numeral n) (was out) at (left out) result }
+    ensures { Puts (numeral n) out.old at out.new result }
 {
     let mut digits = [0u8; 20];
     let k = io::decimal(n, &mut digits);
@@ -33,7 +33,7 @@ pub fn put_number(out: &mut [u8], at: usize, n: u64) -> usize
 
 // The same for a line of two numbers, each behind a word.
 pub fn put_pair(out: &mut [u8], at: usize, first: &[u8], a: u64, second: &[u8], b: u64) -> usize
-    ensures { Puts (pairLine (was first) a (was second) b) (was out) at (left out) result }
+    ensures { Puts (pair_line first.now a second.now b) out.old at out.new result }
 {
     let a_at = put(out, at, first);
     let second_at = put_number(out, a_at, a);
@@ -44,14 +44,14 @@ pub fn put_pair(out: &mut [u8], at: usize, first: &[u8], a: u64, second: &[u8], 
 
 // The same for the line of a refusal, by the paper's number and value.
 pub fn put_refusal(out: &mut [u8], at: usize, number: usize, value: usize) -> usize
-    ensures { Puts (refusedLine number value) (was out) at (left out) result }
+    ensures { Puts (refused_line number value) out.old at out.new result }
 {
     put_pair(out, at, b"refused ", number as u64, b" ", value as u64)
 }
 
 // The same for the line of a build, by its number and value: the rows used, or a refusal.
 pub fn put_built(out: &mut [u8], at: usize, number: usize, value: usize) -> usize
-    ensures { Puts (builtLine number value) (was out) at (left out) result }
+    ensures { Puts (built_line number value) out.old at out.new result }
 {
     if number != 0 {
         return put_refusal(out, at, number, value);

@@ -4,30 +4,30 @@ use mathlib.Core.Logic.{◌≢◌}
 use Prim.Native.Nat.{ℕ}
 use native.Mathlib.Omega.{arith}
 use lib.ListN.{length, length-replicate}
-use Rattle.sets.proofs.Zeros.{zero-at}
+use Rattle.sets.proofs.Zeros.{zero_at}
 use Rattle.meaning.specs.Rules.{Rules}
 use Rattle.meaning.specs.Tables.{Five}
 use Rattle.format.specs.Format.{Meaning}
-use Rattle.format.proofs.Numbers.{number-some}
+use Rattle.format.proofs.Numbers.{number_some}
 use Rattle.lent.specs.Lent.{zeroed, AsLong}
-use Rattle.promised.specs.Promise.{Builds, accepted, no_room, Answers, builds, refuses}
+use Rattle.promised.specs.Promise.{Builds, accepted, no_room_lem, Answers, builds, refuses}
 use Rattle.promised.specs.Buffers.{Cleared, ZeroPast, AfterBuild}
-use Rattle.promised.proofs.Exact.{not-ten}
+use Rattle.promised.proofs.Exact.{not_ten}
 
 pub all-zero : (b : Five) → Cleared b (zeroed b)
 all-zero b = record {
   long = record {
-    goto-long = length-replicate {A = ℕ} (length b.goto) 0;
+    goto_long = length-replicate {A = ℕ} (length b.goto) 0;
     fall-long = length-replicate {A = ℕ} (length b.fall) 0;
     held-long = length-replicate {A = ℕ} (length b.held) 0;
     live-long = length-replicate {A = ℕ} (length b.live) 0;
     out-long = length-replicate {A = ℕ} (length b.out) 0;
   };
-  goto-is = zero-at (length b.goto);
-  fall-is = zero-at (length b.fall);
-  held-is = zero-at (length b.held);
-  live-is = zero-at (length b.live);
-  out-is = zero-at (length b.out);
+  goto_is = zero_at (length b.goto);
+  fall_is = zero_at (length b.fall);
+  held_is = zero_at (length b.held);
+  live_is = zero_at (length b.live);
+  out_is = zero_at (length b.out);
 }
 
 -- the same of the numbers that a promise has
@@ -42,7 +42,7 @@ built (accepted l t k) = record {
   found = λ some ten. absurd (some refl);
   zeroes = λ z. absurd (omega arith);
   past = λ z. record {
-    goto-past = t.rest.goto-rest;
+    goto_past = t.rest.goto_rest;
     fall-past = t.rest.fall-rest;
     held-past = t.rest.held-rest;
     live-past = t.rest.live-rest;
@@ -50,16 +50,16 @@ built (accepted l t k) = record {
   };
   long = k;
 }
-built {old = old} (no_room m) = record { found = λ some ten. absurd (ten refl); zeroes = λ z. all-zero old; past = λ z. absurd (omega arith); long = (all-zero old).long }
+built {old = old} (no_room_lem m) = record { found = λ some ten. absurd (ten refl); zeroes = λ z. all-zero old; past = λ z. absurd (omega arith); long = (all-zero old).long }
 
 answered : {m : Meaning} {old b : Five} {i v : ℕ} → Answers old m b i v → After old b i v
 answered (builds p) = built p
 answered (refuses {why}) = record {
   found = λ some ten. refl;
-  zeroes = λ z. absurd (not-ten why z);
-  past = λ z. absurd (omega (arith, (number-some why).0));
-  long = record { goto-long = refl; fall-long = refl; held-long = refl; live-long = refl; out-long = refl };
+  zeroes = λ z. absurd (not_ten why z);
+  past = λ z. absurd (omega (arith, (number_some why).0));
+  long = record { goto_long = refl; fall-long = refl; held-long = refl; live-long = refl; out-long = refl };
 }
 
-pub after-build : AfterBuild
-after-build c = let a = answered c.promise in record { found = a.found; zeroes = a.zeroes; past = a.past; long = a.long }
+pub after_build : AfterBuild
+after_build c = let a = answered c.promise in record { found = a.found; zeroes = a.zeroes; past = a.past; long = a.long }

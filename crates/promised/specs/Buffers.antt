@@ -8,15 +8,15 @@ use Rattle.promised.specs.Exact.{BuildCall}
 -- every entry is 0, and each buffer is as long as it was
 pub record Cleared (old b : Five) : Type 0 where
   pub long : AsLong old b
-  pub goto-is : (i : ℕ) → get_or b.goto i 0 ≡ 0
-  pub fall-is : (i : ℕ) → get_or b.fall i 0 ≡ 0
-  pub held-is : (i : ℕ) → get_or b.held i 0 ≡ 0
-  pub live-is : (i : ℕ) → get_or b.live i 0 ≡ 0
-  pub out-is : (i : ℕ) → get_or b.out i 0 ≡ 0
+  pub goto_is : (i : ℕ) → get_or b.goto i 0 ≡ 0
+  pub fall_is : (i : ℕ) → get_or b.fall i 0 ≡ 0
+  pub held_is : (i : ℕ) → get_or b.held i 0 ≡ 0
+  pub live_is : (i : ℕ) → get_or b.live i 0 ≡ 0
+  pub out_is : (i : ℕ) → get_or b.out i 0 ≡ 0
 
 -- every entry from n rows on is 0: a row has 256 entries of goto, one of fall and of held, four of live and of out
 pub record ZeroPast (n : ℕ) (b : Five) : Type 0 where
-  pub goto-past : (i : ℕ) → 256 * n ≤ i → get_or b.goto i 0 ≡ 0
+  pub goto_past : (i : ℕ) → 256 * n ≤ i → get_or b.goto i 0 ≡ 0
   pub fall-past : (i : ℕ) → n ≤ i → get_or b.fall i 0 ≡ 0
   pub held-past : (i : ℕ) → n ≤ i → get_or b.held i 0 ≡ 0
   pub live-past : (i : ℕ) → 4 * n ≤ i → get_or b.live i 0 ≡ 0

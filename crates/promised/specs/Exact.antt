@@ -5,8 +5,8 @@ use Rattle.meaning.specs.Rules.{Rules}
 use Rattle.meaning.specs.Standing.{Same}
 use Rattle.meaning.specs.Tables.{Five}
 use Rattle.book.specs.Content.{Content}
-use Rattle.format.specs.Format.{means, meaningOf}
-use Rattle.book.specs.Meant.{rulesOf}
+use Rattle.format.specs.Format.{means, meaning_of}
+use Rattle.book.specs.Meant.{rules_of}
 use Rattle.lent.specs.Lent.{lent}
 use Rattle.promised.specs.Promise.{number_of, value_of, Promise}
 use Rattle.promised.specs.declared.Built.{Built}
@@ -22,18 +22,18 @@ pub record BuildCall : Type 0 where
 -- the bytes are a sound book's, which has more than n standings, or at most n
 pub record Crowded (bytes : List ℕ) (n : ℕ) : Type 0 where
   pub content : Content
-  pub sound : meaningOf bytes ≡ means content
-  pub more : MoreThan (Same (rulesOf content)) n
+  pub sound : meaning_of bytes ≡ means content
+  pub more : MoreThan (Same (rules_of content)) n
 
 pub record Fitting (bytes : List ℕ) (n : ℕ) : Type 0 where
   pub content : Content
-  pub sound : meaningOf bytes ≡ means content
-  pub rows : AtMost (Same (rulesOf content)) n
+  pub sound : meaning_of bytes ≡ means content
+  pub rows : AtMost (Same (rules_of content)) n
 
 -- 10 is given exactly when more rows are needed than lent, with the rows lent; 0 exactly when they suffice
 pub record Exactly (c : BuildCall) : Type 0 where
-  pub no_room : (number_of c.answer ≡ 10) ↔ Crowded c.bytes (lent c.old)
-  pub room-value : number_of c.answer ≡ 10 → value_of c.answer ≡ lent c.old
+  pub no_room_lem : (number_of c.answer ≡ 10) ↔ Crowded c.bytes (lent c.old)
+  pub room_value : number_of c.answer ≡ 10 → value_of c.answer ≡ lent c.old
   pub accepted : (number_of c.answer ≡ 0) ↔ Fitting c.bytes (lent c.old)
 
 abbrev pub RoomExactly : Type 0
@@ -42,7 +42,7 @@ RoomExactly = (c : BuildCall) → Exactly c
 -- just one of the two
 pub record JustOne (r : Rules) (n : ℕ) : Type 0 where
   pub one : AtMost (Same r) n ⊎ MoreThan (Same r) n
-  pub not-both : AtMost (Same r) n → ¬ MoreThan (Same r) n
+  pub not_both : AtMost (Same r) n → ¬ MoreThan (Same r) n
 
 abbrev pub RowsOrMore : Type 0
 RowsOrMore = (r : Rules) (n : ℕ) → JustOne r n

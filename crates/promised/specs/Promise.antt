@@ -7,8 +7,8 @@ use Rattle.meaning.specs.Tables.{Five, Tables}
 use Rattle.format.specs.declared.Refusal.{Refusal}
 use Rattle.book.specs.Content.{Content}
 use Rattle.format.specs.Answers.{number, value}
-use Rattle.format.specs.Format.{Meaning, means, refused, meaningOf}
-use Rattle.book.specs.Meant.{rulesOf}
+use Rattle.format.specs.Format.{Meaning, means, refused, meaning_of}
+use Rattle.book.specs.Meant.{rules_of}
 use Rattle.lent.specs.Lent.{lent, zeroed, AsLong}
 use Rattle.promised.specs.declared.Built.{Built}
 use Rattle.promised.specs.declared.Built.TheVariants.{Rows, NoRoom, Refused}
@@ -31,13 +31,13 @@ value_of (Refused why) = value why
 -- they are, and their tables; where there are more standings, 10 with the rows lent, and every entry 0.
 pub data Builds (r : Rules) (old : Five) : Five → ℕ → ℕ → Type 0 where
   accepted : {n : ℕ} {b : Five} → n ≤ lent old → Tables r b n → AsLong old b → Builds r old b 0 n
-  no_room : MoreThan (Same r) (lent old) → Builds r old (zeroed old) 10 (lent old)
+  no_room_lem : MoreThan (Same r) (lent old) → Builds r old (zeroed old) 10 (lent old)
 
 -- The same for what the book's bytes mean: a refused book gives the reader's number and value, and leaves the buffers as found.
 pub data Answers (old : Five) : Meaning → Five → ℕ → ℕ → Type 0 where
-  builds : {a : Content} {b : Five} {i v : ℕ} → Builds (rulesOf a) old b i v → Answers old (means a) b i v
+  builds : {a : Content} {b : Five} {i v : ℕ} → Builds (rules_of a) old b i v → Answers old (means a) b i v
   refuses : {why : Refusal} → Answers old (refused why) old (number why) (value why)
 
 -- the answer x and the buffers b, for a book's bytes and the buffers lent
 abbrev pub Promise : List ℕ → Five → Five → Built → Type 0
-Promise bytes old b x = Answers old (meaningOf bytes) b (number_of x) (value_of x)
+Promise bytes old b x = Answers old (meaning_of bytes) b (number_of x) (value_of x)

@@ -1,4 +1,5 @@
 // The answer of a build; what a build promises is in specs/, and what is proved of that in proofs/.
+#![tactic(auto)]
 
 ghost use Rattle.std.specs.Prelude.{◌≡◌};
 ghost use Rattle.promised.specs.Promise.{number_of, value_of};

@@ -6,8 +6,8 @@ use native.Mathlib.Omega.{arith}
 use Rattle.reader.specs.declared.ReadBook.{ReadBook}
 use Rattle.format.specs.declared.Refusal.{Refusal}
 use Rattle.format.specs.declared.Answer.TheVariants.{Accepted, Refused}
-use Rattle.book.specs.Content.{recordOf}
-use Rattle.format.specs.Format.{Meaning, means, refused, meaningOf}
+use Rattle.book.specs.Content.{record_of}
+use Rattle.format.specs.Format.{Meaning, means, refused, meaning_of}
 use Rattle.reader.specs.Handed.{handed, read_of}
 use Rattle.rows.specs.Rows.{ByteText}
 use Rattle.format.specs.Lawful.{Accepting}
@@ -18,27 +18,27 @@ use Rattle.book.proofs.Meant.{rules-same-held}
 module _ (s : List ℕ) {x : ReadBook} (q : x ≡ read_of s) where
   pub accepting : ByteText s → x.answer ≡ Accepted → Accepting s x.book
   unfolding read_of handed
-  accepting small k = go (meaningOf s) refl q
+  accepting small k = go (meaning_of s) refl q
     where
-      go : (m : Meaning) → meaningOf s ≡ m → x ≡ handed m → Accepting s x.book
+      go : (m : Meaning) → meaning_of s ≡ m → x ≡ handed m → Accepting s x.book
       go (means a) e w =
           let l = lawful s small a e in
-          let h : x.book ≡ recordOf a = ap (λ y. y.book) w in
+          let h : x.book ≡ record_of a = ap (λ y. y.book) w in
           record {
             content = a;
             meant = e;
             lawful = l;
             held = h;
             same = rules-same-held a l.sound h;
-            few = rw (rules-held a h) l.sound.fewRules;
+            few = rw (rules-held a h) l.sound.few_rules;
             short = short-held a h l.sound;
           }
       go (refused y) e w = let z : x.answer ≡ Refused y = ap (λ y. y.answer) w in absurd (let o : ◌≡◌ {A = ℕ} 0 1 = cc in omega arith)
 
-  pub refusing : {y : Refusal} → x.answer ≡ Refused y → meaningOf s ≡ refused y
+  pub refusing : {y : Refusal} → x.answer ≡ Refused y → meaning_of s ≡ refused y
   unfolding read_of handed
-  refusing {y} k = go (meaningOf s) refl q
+  refusing {y} k = go (meaning_of s) refl q
     where
-      go : (m : Meaning) → meaningOf s ≡ m → x ≡ handed m → meaningOf s ≡ refused y
+      go : (m : Meaning) → meaning_of s ≡ m → x ≡ handed m → meaning_of s ≡ refused y
       go (means a) e w = let z : x.answer ≡ Accepted = ap (λ y. y.answer) w in absurd (let o : ◌≡◌ {A = ℕ} 0 1 = cc in omega arith)
       go (refused y') e w = let z : x.answer ≡ Refused y' = ap (λ y. y.answer) w in e ∙ ap refused (let o : y' ≡ y = cc in o)

@@ -11,8 +11,8 @@ use Rattle.format.specs.declared.Refusal.{Refusal}
 use Rattle.format.specs.declared.Refusal.TheVariants.{NoRule}
 use Rattle.reader.specs.declared.Progress.TheVariants.{Taken, Stopped}
 use Rattle.format.specs.declared.Answer.TheVariants.{Accepted, Refused}
-use Rattle.book.specs.Content.{Content, nothing, recordOf}
-use Rattle.format.specs.Format.{Outcome, goes, stops, field_at, Meaning, means, refused, ended, meaningOf}
+use Rattle.book.specs.Content.{Content, nothing, record_of}
+use Rattle.format.specs.Format.{Outcome, goes, stops, field_at, Meaning, means, refused, ended, meaning_of}
 use Rattle.reader.specs.Handed.{handed, read_of}
 use Rattle.reader.specs.Leaves.{ArraysHold, Shows, whole_of}
 use Rattle.reader.proofs.Steps.{shown}
@@ -31,16 +31,16 @@ starts s q = record { content = nothing; held = q; rest = rest-start s }
 
 module _ (s : List ℕ) (at : ℕ) (h : at < length s) (r : Progress) (symbols lengths map : List ℕ) where
   module _ (a : Content) where
-    goes_on : {e p n : ℕ} → Rest s at a → r ≡ Taken e p n → (o : Outcome) → field_at s at a ≡ o → Shows r symbols lengths map o → Reading s e symbols lengths map p n × (at < e)
-    goes_on {e} {p} {n} m x (goes f b) k w =
+    goes_on_lem : {e p n : ℕ} → Rest s at a → r ≡ Taken e p n → (o : Outcome) → field_at s at a ≡ o → Shows r symbols lengths map o → Reading s e symbols lengths map p n × (at < e)
+    goes_on_lem {e} {p} {n} m x (goes f b) k w =
         let y : Taken f (length b.pictures) (length b.rules) ≡ Taken e p n = sym w.0 ∙ x in
         let z : f ≡ e = cc in
         let u : length b.pictures ≡ p = cc in
         let v : length b.rules ≡ n = cc in
         (rw (← z, ← u, ← v) (record { content = b; held = w.1; rest = rest_goes s at a m h k }), rw (← z) (ahead-goes s at a k).0)
-    goes_on m x (stops y) k w = absurd (let z : ◌≡◌ {A = ℕ} 0 1 = cc in omega arith)
+    goes_on_lem m x (stops y) k w = absurd (let z : ◌≡◌ {A = ℕ} 0 1 = cc in omega arith)
 
-    halt : (x : Refusal) → Rest s at a → r ≡ Stopped x → (o : Outcome) → field_at s at a ≡ o → Shows r symbols lengths map o → meaningOf s ≡ refused x
+    halt : (x : Refusal) → Rest s at a → r ≡ Stopped x → (o : Outcome) → field_at s at a ≡ o → Shows r symbols lengths map o → meaning_of s ≡ refused x
     halt x m y (goes e b) k w = absurd (let z : ◌≡◌ {A = ℕ} 0 1 = cc in omega arith)
     halt x m y (stops z) k w = rest-stops s at a m h k ∙ ap refused (cc)
 
@@ -51,44 +51,44 @@ module _ (s : List ℕ) (at : ℕ) (h : at < length s) (r : Progress) (symbols l
     stepped = f R.content R.held
 
     pub turns : {e p n : ℕ} → r ≡ Taken e p n → Reading s e symbols lengths map p n × (at < e)
-    turns x = goes_on R.content R.rest x (field_at s at R.content) refl stepped
+    turns x = goes_on_lem R.content R.rest x (field_at s at R.content) refl stepped
 
-    pub halts : {x : Refusal} → r ≡ Stopped x → meaningOf s ≡ refused x
+    pub halts : {x : Refusal} → r ≡ Stopped x → meaning_of s ≡ refused x
     halts {x} y = halt R.content x R.rest y (field_at s at R.content) refl stepped
 
 -- ---- the end
 
 module _ (s : List ℕ) (at : ℕ) {symbols lengths map : List ℕ} {p n : ℕ} (R : Reading s at symbols lengths map p n) (h : length s ≤ at) where
-  at-end : meaningOf s ≡ ended (length s) R.content
+  at-end : meaning_of s ≡ ended (length s) R.content
   at-end = rest-ends s at R.content R.rest h
 
-  pub no-rule : n ≡ 0 → Shows (Stopped (NoRule (length s))) symbols lengths map (whole_of (length s) (meaningOf s))
+  pub no_rule : n ≡ 0 → Shows (Stopped (NoRule (length s))) symbols lengths map (whole_of (length s) (meaning_of s))
   unfolding ended
-  no-rule z = rw (at-end, eq-eqb (length R.content.rules) 0 (sym R.held.rulesAre ∙ z)) refl
+  no_rule z = rw (at-end, eq-eqb (length R.content.rules) 0 (sym R.held.rules_are ∙ z)) refl
 
-  pub some-rule : (n ≡ 0 → ⊥) → Shows (Taken at p n) symbols lengths map (whole_of (length s) (meaningOf s))
+  pub some-rule : (n ≡ 0 → ⊥) → Shows (Taken at p n) symbols lengths map (whole_of (length s) (meaning_of s))
   unfolding ended
   some-rule k =
       let e : at ≡ length s = omega (arith, R.rest.inside) in
-      rw (at-end, ne_eqb (length R.content.rules) 0 (λ z. k (R.held.rulesAre ∙ z)), e) (shown (length s) R.held)
+      rw (at-end, ne_eqb (length R.content.rules) 0 (λ z. k (R.held.rules_are ∙ z)), e) (shown (length s) R.held)
 
 -- ---- what is handed back
 
 -- the parts of an empty record hold nothing
-pub blank-holds : {b : Book} → b ≡ recordOf nothing → ArraysHold b.symbols b.lengths b.picture 0 0 nothing
-unfolding recordOf
-blank-holds q = record {
-  symbolsAre = ap (λ x. x.symbols) q;
-  lengthsAre = ap (λ x. x.lengths) q;
-  mapIs = ap (λ x. x.picture) q;
-  picturesAre = refl;
-  rulesAre = refl;
+pub blank_holds : {b : Book} → b ≡ record_of nothing → ArraysHold b.symbols b.lengths b.picture 0 0 nothing
+unfolding record_of
+blank_holds q = record {
+  symbols_are = ap (λ x. x.symbols) q;
+  lengths_are = ap (λ x. x.lengths) q;
+  map_is = ap (λ x. x.picture) q;
+  pictures_are = refl;
+  rules_are = refl;
 }
 
-module _ (s : List ℕ) (r : Progress) (symbols lengths map : List ℕ) (w : Shows r symbols lengths map (whole_of (length s) (meaningOf s))) where
+module _ (s : List ℕ) (r : Progress) (symbols lengths map : List ℕ) (w : Shows r symbols lengths map (whole_of (length s) (meaning_of s))) where
   pub accepted-read : {e p n : ℕ} → r ≡ Taken e p n → record { answer = Accepted; book = record { symbols = symbols; lengths = lengths; picture = map; pictures = p; rules = n } } ≡ read_of s
-  unfolding read_of recordOf handed
-  accepted-read {e} {p} {n} x = go (meaningOf s) w
+  unfolding read_of record_of handed
+  accepted-read {e} {p} {n} x = go (meaning_of s) w
     where
       go : (m : Meaning) → Shows r symbols lengths map (whole_of (length s) m) → record { answer = Accepted; book = record { symbols = symbols; lengths = lengths; picture = map; pictures = p; rules = n } } ≡ handed m
       go (means a) k =
@@ -96,12 +96,12 @@ module _ (s : List ℕ) (r : Progress) (symbols lengths map : List ℕ) (w : Sho
           let u : p ≡ length a.pictures = cc in
           let v : n ≡ length a.rules = cc in
           let q = k.1 in
-          λ i. record { answer = Accepted; book = record { symbols = q.symbolsAre i; lengths = q.lengthsAre i; picture = q.mapIs i; pictures = u i; rules = v i } }
+          λ i. record { answer = Accepted; book = record { symbols = q.symbols_are i; lengths = q.lengths_are i; picture = q.map_is i; pictures = u i; rules = v i } }
       go (refused y) k = absurd (let z : ◌≡◌ {A = ℕ} 0 1 = cc in omega arith)
 
-  pub refused-read : {x : Refusal} → r ≡ Stopped x → {b : Book} → b ≡ recordOf nothing → record { answer = Refused x; book = b } ≡ read_of s
+  pub refused-read : {x : Refusal} → r ≡ Stopped x → {b : Book} → b ≡ record_of nothing → record { answer = Refused x; book = b } ≡ read_of s
   unfolding read_of handed
-  refused-read {x} y {b} q = go (meaningOf s) w
+  refused-read {x} y {b} q = go (meaning_of s) w
     where
       go : (m : Meaning) → Shows r symbols lengths map (whole_of (length s) m) → record { answer = Refused x; book = b } ≡ handed m
       go (means a) k = absurd (let z : ◌≡◌ {A = ℕ} 0 1 = cc in omega arith)

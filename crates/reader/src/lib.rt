@@ -1,10 +1,11 @@
 // The reader of rule books: from a book's bytes to its record, or the first refusal.
+#![tactic(auto)]
+
 ghost use Rattle.std.specs.Prelude.{◌≡◌, ◌+◌, ◌^◌, ◌<◌, ◌≤◌, length};
-ghost use Rattle.moments.specs.Moments.{was, left};
 ghost use Rattle.book.specs.Content.{nothing};
-ghost use Rattle.format.specs.Format.{judgePicture, judgeSymbols, judgeRule};
+ghost use Rattle.format.specs.Format.{judge_picture, judge_symbols, judge_rule};
 ghost use Rattle.reader.specs.Handed.{read_of};
-ghost use Rattle.reader.specs.Leaves.{mapAfter, symbolsAfter, lengthsAfter, ArraysHold, TakesField, TakesAll};
+ghost use Rattle.reader.specs.Leaves.{map_after, symbols_after, lengths_after, ArraysHold, TakesField, TakesAll};
 
 use book::{Book, Pictures};
 use format::{Answer, Head, Refusal};
@@ -28,7 +29,7 @@ enum Progress {
 // What the symbols of a rule, whose body starts at `start`, are answered after `pictures` pictures: the first that is at fault counts.
 fn judge_symbols(body: &[u8], start: usize, pictures: u8) -> Answer
     requires { start + length body.now ≤ 2 ^ 64 }
-    ensures { result ≡ judgeSymbols pictures start (was body) }
+    ensures { result ≡ judge_symbols pictures start body.now }
 {
     let mut i: usize = 0;
     while i + 1 < body.len() {
@@ -50,8 +51,8 @@ fn judge_symbols(body: &[u8], start: usize, pictures: u8) -> Answer
 
 // The picture at `at`, the next after `pictures`: the map has it where it is accepted.
 fn take_picture(map: &mut Pictures, pictures: u8, body: &[u8], at: usize) -> Answer
-    ensures value { result ≡ judgePicture pictures at (was body) }
-    ensures map_value { left map ≡ mapAfter result (was map) pictures (was body) }
+    ensures judges { result ≡ judge_picture pictures at body.now }
+    ensures marks { map.new ≡ map_after result map.old pictures body.now }
 {
     if Book::PICTURES <= pictures {
         return Answer::Refused(Refusal::PictureMany(at));
@@ -66,7 +67,7 @@ fn take_picture(map: &mut Pictures, pictures: u8, body: &[u8], at: usize) -> Ans
 // What the rule at `at` is answered after `rules` rules and `pictures` pictures.
 fn judge_rule(rules: usize, pictures: u8, body: &[u8], at: usize) -> Answer
     requires { at + 3 + length body.now < 2 ^ 64 }
-    ensures { result ≡ judgeRule rules pictures at (was body) }
+    ensures { result ≡ judge_rule rules pictures at body.now }
 {
     if Book::RULES <= rules {
         return Answer::Refused(Refusal::RuleMany(at));
@@ -93,9 +94,9 @@ fn take_rule(
     at: usize,
 ) -> Answer
     requires { at + 3 + length body.now < 2 ^ 64 }
-    ensures value { result ≡ judgeRule rules pictures at (was body) }
-    ensures symbols_value { left symbols ≡ symbolsAfter result (was symbols) rules (was body) }
-    ensures lengths_value { left lengths ≡ lengthsAfter result (was lengths) rules (was body) }
+    ensures judges { result ≡ judge_rule rules pictures at body.now }
+    ensures symbols_grown { symbols.new ≡ symbols_after result symbols.old rules body.now }
+    ensures lengths_grown { lengths.new ≡ lengths_after result lengths.old rules body.now }
 {
     match judge_rule(rules, pictures, body, at) {
         Answer::Accepted => {
@@ -116,8 +117,8 @@ fn field(
     bytes: &[u8],
     at: usize,
 ) -> Progress
-    ensures { TakesField (was symbols) (was lengths) (was map) pictures rules (was bytes) at
-        result (left symbols) (left lengths) (left map) }
+    ensures { TakesField symbols.old lengths.old map.old pictures rules bytes.now at
+        result symbols.new lengths.new map.new }
 {
     match format::head_at(bytes, at) {
         Head::Short => Progress::Stopped(Refusal::Cut(at)),
@@ -147,7 +148,7 @@ fn take_all(
     bytes: &[u8],
 ) -> Progress
     requires { ArraysHold symbols.old lengths.old map.old 0 0 nothing }
-    ensures { TakesAll (was bytes) result (left symbols) (left lengths) (left map) }
+    ensures { TakesAll bytes.now result symbols.new lengths.new map.new }
 {
     let mut pictures: u8 = 0;
     let mut rules: usize = 0;
@@ -173,7 +174,7 @@ fn take_all(
 
 // The book that the bytes hold, or the first refusal with the empty book. The arrays are lent, and the record is put together once.
 pub fn read(bytes: &[u8]) -> ReadBook
-    ensures { result ≡ read_of (was bytes) }
+    ensures { result ≡ read_of bytes.now }
 {
     let blank = Book::empty();
     let mut symbols = blank.symbols;

@@ -10,9 +10,9 @@ use lib.ListN.{length, get_or, length-append, get_or-append}
 use lib.Seq.{get_or-append_seam}
 use Rattle.rows.specs.Rows.{ByteText, Before, none, earlier, last, IsRow, HasRow, Ascending, IsRows, MoreThan}
 use Rattle.rows.specs.Unique.{Congruence}
-use Rattle.rows.proofs.Bytes.{byte-cons}
-use Rattle.rows.proofs.Order.{before-nil, before-trans, before-cons}
-use Rattle.rows.proofs.Rows.{distinct, row_before, row_same, row-append}
+use Rattle.rows.proofs.Bytes.{byte_cons}
+use Rattle.rows.proofs.Order.{before_nil, before_trans, before_cons}
+use Rattle.rows.proofs.Rows.{distinct, row_before, row_same, row_append}
 
 pub length-snoc : (ts : List (List ℕ)) (x : List ℕ) → length (ts ++ x ∷ []) ≡ suc (length ts)
 length-snoc ts x = rw length-append (omega arith)
@@ -38,8 +38,8 @@ module _ {Same : List ℕ → List ℕ → Type 0} (S : Congruence Same) where
   pub row_new : (ts : List (List ℕ)) (x : List ℕ) → IsRow Same (ts ++ x ∷ []) x (length ts)
   row_new ts x = record { below = omega (arith, length-snoc ts x); same = rw get_or-append_seam (S.same x) }
 
-  root-row : {ts : List (List ℕ)} {s c : ℕ} → Partial Same ts s c → HasRow Same ts []
-  root-row p = (0, record { below = p.root.0; same = rw p.root.1 (S.same []) })
+  root_row : {ts : List (List ℕ)} {s c : ℕ} → Partial Same ts s c → HasRow Same ts []
+  root_row p = (0, record { below = p.root.0; same = rw p.root.1 (S.same []) })
 
   pub start : Partial Same ([] ∷ []) 0 0
   start =
@@ -59,7 +59,7 @@ module _ {Same : List ℕ → List ℕ → Type 0} (S : Congruence Same) where
       bytes = one ByteText (λ j. omega arith)
 
       least : (i : ℕ) → i < 1 → (u : List ℕ) → ByteText u → Same u (get_or ([] ∷ []) i []) → ¬ Before u (get_or ([] ∷ []) i [])
-      least = one (λ t. (u : List ℕ) → ByteText u → Same u t → ¬ Before u t) (λ u by s. before-nil)
+      least = one (λ t. (u : List ℕ) → ByteText u → Same u t → ¬ Before u t) (λ u by s. before_nil)
 
       behind : (i : ℕ) → i < 1 → Before (get_or ([] ∷ []) i []) (0 ∷ [])
       behind = one (λ t. Before t (0 ∷ [])) none
@@ -69,7 +69,7 @@ module _ {Same : List ℕ → List ℕ → Type 0} (S : Congruence Same) where
       record {
         ascending = p.ascending;
         root = p.root;
-        behind = λ l i m. before-trans (p.behind l i m) (last (omega arith));
+        behind = λ l i m. before_trans (p.behind l i m) (last (omega arith));
         done = p.done;
         part = λ e l. elim (dec_lt e c) [ yes h ↦ p.part e h | no g ↦ let z : e ≡ c = omega arith in rw z r ];
       }
@@ -79,7 +79,7 @@ module _ {Same : List ℕ → List ℕ → Type 0} (S : Congruence Same) where
       record {
         ascending = p.ascending;
         root = p.root;
-        behind = λ l i m. before-trans (p.behind (omega arith) i m) (earlier (p.ascending.ordered s (s + 1) (omega arith) l));
+        behind = λ l i m. before_trans (p.behind (omega arith) i m) (earlier (p.ascending.ordered s (s + 1) (omega arith) l));
         done = λ q e l b. elim (dec_lt q s) [ yes h ↦ p.done q e h b | no g ↦ let z : q ≡ s = omega arith in rw z (p.part e b) ];
         part = λ e l. absurd (omega arith);
       }
@@ -88,7 +88,7 @@ module _ {Same : List ℕ → List ℕ → Type 0} (S : Congruence Same) where
   finish {ts} {s} p l = record { ascending = p.ascending; complete = complete }
     where
       complete : (u : List ℕ) → ByteText u → HasRow Same ts u
-      complete [] b = root-row p
+      complete [] b = root_row p
       complete (e ∷ u) b =
           let (q, r) = complete u (λ i. b (suc i)) in
           let (i, r') = p.done q e (omega arith) (b 0) in
@@ -97,10 +97,10 @@ module _ {Same : List ℕ → List ℕ → Type 0} (S : Congruence Same) where
   module _ {ts : List (List ℕ)} {s c : ℕ} (p : Partial Same ts s c) (m : s < length ts) where
     -- Every text before the next one has a row already.
     covered : (u : List ℕ) → ByteText u → Before u (c ∷ get_or ts s []) → HasRow Same ts u
-    covered [] b none = root-row p
+    covered [] b none = root_row p
     covered (e ∷ v) b (earlier l) =
         let tail : ByteText v = λ i. b (suc i) in
-        let (q, r) = covered v tail (before-trans l (before-cons c (get_or ts s []))) in
+        let (q, r) = covered v tail (before_trans l (before_cons c (get_or ts s []))) in
         let (i, r') = p.done q e (row_before p.ascending s m tail r l) (b 0) in
         (i, row_same S (S.more e r.same) r')
     covered (e ∷ v) b (last l) = p.part e l
@@ -111,7 +111,7 @@ module _ {Same : List ℕ → List ℕ → Type 0} (S : Congruence Same) where
           let x = c ∷ get_or ts s [] in
           let a = p.ascending in
           record {
-            bytes = snoc ts x (λ i t. ByteText t) a.bytes (byte-cons c (get_or ts s []) b (a.bytes s m));
+            bytes = snoc ts x (λ i t. ByteText t) a.bytes (byte_cons c (get_or ts s []) b (a.bytes s m));
             ordered = λ i j l h.
                 snoc ts x (λ j t. (i : ℕ) → i < j → Before (get_or (ts ++ x ∷ []) i []) t)
                 (λ j h i l. let k : i < length ts = omega arith in rw get_or-append (a.ordered i j l h))
@@ -130,12 +130,12 @@ module _ {Same : List ℕ → List ℕ → Type 0} (S : Congruence Same) where
             ascending = longer;
             root = (omega arith, rw (get_or-append, p.root.0) p.root.1);
             behind = λ l. rw at
-                (snoc ts x (λ i t. Before t ((c + 1) ∷ get_or ts s [])) (λ i h. before-trans (p.behind m i h) (last (omega arith)))
+                (snoc ts x (λ i t. Before t ((c + 1) ∷ get_or ts s [])) (λ i h. before_trans (p.behind m i h) (last (omega arith)))
                 (last (omega arith)));
-            done = λ q e l h. let k : q < length ts = omega arith in let (i, r) = p.done q e l h in rw get_or-append (i, row-append S (x ∷ []) r);
+            done = λ q e l h. let k : q < length ts = omega arith in let (i, r) = p.done q e l h in rw get_or-append (i, row_append S (x ∷ []) r);
             part = λ e l. rw at
                 (elim (dec_lt e c) [
-                  | yes h ↦ let (i, r) = p.part e h in (i, row-append S (x ∷ []) r)
+                  | yes h ↦ let (i, r) = p.part e h in (i, row_append S (x ∷ []) r)
                   | no g ↦ let z : e ≡ c = omega arith in rw z (length ts, row_new ts x)
                 ]);
           }

@@ -50,9 +50,9 @@ module _ {Same : List ℕ → List ℕ → Type 0} (S : Congruence Same) (decide
         ]
 
   -- the empty text has a standing
-  some-standing : MoreThan Same 0
-  some-standing = record { texts = [] ∷ []; long = refl; bytes = (start S).ascending.bytes; different = λ i j l m. absurd (omega arith) }
+  some_standing : MoreThan Same 0
+  some_standing = record { texts = [] ∷ []; long = refl; bytes = (start S).ascending.bytes; different = λ i j l m. absurd (omega arith) }
 
 pub exists : Exists
-exists Same S decide zero = inl (some-standing S decide)
+exists Same S decide zero = inl (some_standing S decide)
 exists Same S decide (suc n) = rows S decide (suc n) (suc n) (omega arith) (start S) (omega arith)

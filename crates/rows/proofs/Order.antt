@@ -19,26 +19,26 @@ behind-some none = omega arith
 behind-some (earlier b) = omega arith
 behind-some (last l) = omega arith
 
-pub before-nil : {t : List ℕ} → ¬ Before t []
-before-nil b = omega (arith, behind-some b)
+pub before_nil : {t : List ℕ} → ¬ Before t []
+before_nil b = omega (arith, behind-some b)
 
-pub before-irrefl : {t : List ℕ} → ¬ Before t t
-before-irrefl b = apart b refl
+pub before_irrefl : {t : List ℕ} → ¬ Before t t
+before_irrefl b = apart b refl
 
-pub before-trans : {t u v : List ℕ} → Before t u → Before u v → Before t v
-before-trans none (earlier b) = none
-before-trans none (last l) = none
-before-trans (earlier a) (earlier b) = earlier (before-trans a b)
-before-trans (earlier a) (last l) = earlier a
-before-trans (last l) (earlier b) = earlier b
-before-trans (last {c} l) (last {d = d} m) = last {c = c} {d = d} (omega arith)
+pub before_trans : {t u v : List ℕ} → Before t u → Before u v → Before t v
+before_trans none (earlier b) = none
+before_trans none (last l) = none
+before_trans (earlier a) (earlier b) = earlier (before_trans a b)
+before_trans (earlier a) (last l) = earlier a
+before_trans (last l) (earlier b) = earlier b
+before_trans (last {c} l) (last {d = d} m) = last {c = c} {d = d} (omega arith)
 
-pub before-total : Total
-before-total [] [] = inr (inl refl)
-before-total [] (d ∷ u) = inl none
-before-total (c ∷ t) [] = inr (inr none)
-before-total (c ∷ t) (d ∷ u) =
-    elim (before-total t u) [
+pub before_total : Total
+before_total [] [] = inr (inl refl)
+before_total [] (d ∷ u) = inl none
+before_total (c ∷ t) [] = inr (inr none)
+before_total (c ∷ t) (d ∷ u) =
+    elim (before_total t u) [
       | inl b ↦ inl (earlier b)
       | inr (inl e) ↦
           elim (order c d) [
@@ -54,11 +54,11 @@ shorter t [] l = absurd (omega arith)
 shorter [] (d ∷ u) l = none
 shorter (c ∷ t) (d ∷ u) l = earlier (shorter t u (omega arith))
 
-pub before-cons : (c : ℕ) (t : List ℕ) → Before t (c ∷ t)
-before-cons c t = shorter t (c ∷ t) (omega arith)
+pub before_cons : (c : ℕ) (t : List ℕ) → Before t (c ∷ t)
+before_cons c t = shorter t (c ∷ t) (omega arith)
 
-reverse-middle : (x y : List ℕ) (a : ℕ) → reverse (x ++ a ∷ y) ≡ reverse y ++ a ∷ reverse x
-reverse-middle x y a = reverse-append x (a ∷ y) ∙ ap (λ (l : List ℕ). l ++ reverse x) (reverse-cons a y) ∙ append_assoc (reverse y) (a ∷ []) (reverse x)
+reverse_middle : (x y : List ℕ) (a : ℕ) → reverse (x ++ a ∷ y) ≡ reverse y ++ a ∷ reverse x
+reverse_middle x y a = reverse-append x (a ∷ y) ∙ ap (λ (l : List ℕ). l ++ reverse x) (reverse-cons a y) ∙ append_assoc (reverse y) (a ∷ []) (reverse x)
 
 differ : (x y p : List ℕ) (a b : ℕ) → a < b → length x ≡ length y → Before (x ++ a ∷ p) (y ++ b ∷ p)
 differ [] [] p a b l e = last l
@@ -93,13 +93,13 @@ shortlex t u = (to, from)
                 rest' = reverse y;
                 less = h;
                 long = simp length-reverse e;
-                first = sym (reverse-reverse t) ∙ ap reverse q ∙ reverse-middle x p a;
-                second = sym (reverse-reverse u) ∙ ap reverse q' ∙ reverse-middle y p b;
+                first = sym (reverse-reverse t) ∙ ap reverse q ∙ reverse_middle x p a;
+                second = sym (reverse-reverse u) ∙ ap reverse q' ∙ reverse_middle y p b;
               })
         ]
 
     from : (length t < length u) ⊎ Smaller t u → Before (reverse t) (reverse u)
     from (inl l) = shorter (reverse t) (reverse u) (simp length-reverse l)
     from (inr s) =
-        rw (s.first, s.second, reverse-middle s.alike s.rest s.a, reverse-middle s.alike s.rest' s.b)
+        rw (s.first, s.second, reverse_middle s.alike s.rest s.a, reverse_middle s.alike s.rest' s.b)
         (differ (reverse s.rest) (reverse s.rest') (reverse s.alike) s.a s.b s.less (simp length-reverse s.long))

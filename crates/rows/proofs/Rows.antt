@@ -11,7 +11,7 @@ use lib.Seq.{ext_get_or}
 use Rattle.rows.specs.Rows.{ByteText, Before, IsRow, Ascending, IsRows, MoreThan, AtMost}
 use Rattle.rows.specs.Unique.{Congruence, Settles}
 use Rattle.rows.proofs.Compare.{less, equal, more, order}
-use Rattle.rows.proofs.Order.{before-nil, before-trans, before-total}
+use Rattle.rows.proofs.Order.{before_nil, before_trans, before_total}
 use Rattle.rows.proofs.Pigeon.{pigeon}
 
 module _ {Same : List ℕ → List ℕ → Type 0} {ts : List (List ℕ)} (a : Ascending Same ts) where
@@ -25,22 +25,22 @@ module _ {Same : List ℕ → List ℕ → Type 0} {ts : List (List ℕ)} (a : A
       elim (order i s) [
         | less l ↦ l
         | equal e ↦ absurd (a.least i h by r.same (rw e b))
-        | more l ↦ absurd (a.least i h by r.same (before-trans b (a.ordered s i l h)))
+        | more l ↦ absurd (a.least i h by r.same (before_trans b (a.ordered s i l h)))
       ]
 
 module _ {Same : List ℕ → List ℕ → Type 0} (S : Congruence Same) where
   pub row_same : {ts : List (List ℕ)} {t u : List ℕ} {i : ℕ} → Same t u → IsRow Same ts u i → IsRow Same ts t i
   row_same e r = record { below = r.below; same = S.join e r.same }
 
-  pub row-own : (ts : List (List ℕ)) (i : ℕ) → i < length ts → IsRow Same ts (get_or ts i []) i
-  row-own ts i l = record { below = l; same = S.same (get_or ts i []) }
+  pub row_own : (ts : List (List ℕ)) (i : ℕ) → i < length ts → IsRow Same ts (get_or ts i []) i
+  row_own ts i l = record { below = l; same = S.same (get_or ts i []) }
 
-  pub row-append : {ts : List (List ℕ)} {t : List ℕ} {i : ℕ} (us : List (List ℕ)) → IsRow Same ts t i → IsRow Same (ts ++ us) t i
-  row-append {ts} us r =
+  pub row_append : {ts : List (List ℕ)} {t : List ℕ} {i : ℕ} (us : List (List ℕ)) → IsRow Same ts t i → IsRow Same (ts ++ us) t i
+  row_append {ts} us r =
       let l = r.below in record { below = omega (arith, length-append ts us); same = rw get_or-append r.same }
 
-  pub one-row : {ts : List (List ℕ)} → Ascending Same ts → {t : List ℕ} {i j : ℕ} → IsRow Same ts t i → IsRow Same ts t j → i ≡ j
-  one-row a {t} {i} {j} p q =
+  pub one_row_lem : {ts : List (List ℕ)} → Ascending Same ts → {t : List ℕ} {i j : ℕ} → IsRow Same ts t i → IsRow Same ts t j → i ≡ j
+  one_row_lem a {t} {i} {j} p q =
       elim (order i j) [
         | less l ↦ absurd (distinct a i j l q.below (S.join (S.flip p.same) q.same))
         | equal e ↦ e
@@ -52,14 +52,14 @@ module _ {Same : List ℕ → List ℕ → Type 0} (S : Congruence Same) where
       let a = r.ascending in
       let (i, record { below = l; same = s }) = r.complete [] (λ j. omega arith) in
       let e : get_or ts i [] ≡ [] =
-      elim (before-total [] (get_or ts i []))
-      [ inl b ↦ absurd (a.least i l (λ j. omega arith) s b) | inr (inl e) ↦ sym e | inr (inr b) ↦ absurd (before-nil b) ]
+      elim (before_total [] (get_or ts i []))
+      [ inl b ↦ absurd (a.least i l (λ j. omega arith) s b) | inr (inl e) ↦ sym e | inr (inr b) ↦ absurd (before_nil b) ]
       in
-      let z : i ≡ 0 = elim (dec_lt 0 i) [ yes h ↦ absurd (before-nil (rw e at (a.ordered 0 i h l))) | no g ↦ omega arith ] in
+      let z : i ≡ 0 = elim (dec_lt 0 i) [ yes h ↦ absurd (before_nil (rw e at (a.ordered 0 i h l))) | no g ↦ omega arith ] in
       (omega arith, rw z at e)
 
-  pub not-both : {n : ℕ} → AtMost Same n → ¬ MoreThan Same n
-  not-both a m =
+  pub not_both : {n : ℕ} → AtMost Same n → ¬ MoreThan Same n
+  not_both a m =
       let us = m.texts in
       let h : length us ≤ length a.texts =
       pigeon (length us) (length a.texts) (λ i k. Same (get_or us i []) (get_or a.texts k []))
@@ -73,7 +73,7 @@ module _ {Same : List ℕ → List ℕ → Type 0} (S : Congruence Same) where
     other i l =
         let by = a.ascending.bytes i l in
         let (j, record { below = m; same = s }) = b.complete (get_or ts i []) by in
-        elim (before-total (get_or ts i []) (get_or us j [])) [
+        elim (before_total (get_or ts i []) (get_or us j [])) [
           | inl c ↦ absurd (b.ascending.least j m by s c)
           | inr (inl e) ↦ (j, m, e)
           | inr (inr c) ↦ absurd (a.ascending.least i l (b.ascending.bytes j m) (S.flip s) c)
@@ -87,7 +87,7 @@ module _ {Same : List ℕ → List ℕ → Type 0} (S : Congruence Same) where
         let h : i ≤ k = not_earlier i (omega arith) k n f in
         let c : Before (get_or us k []) (get_or us j []) = rw (← f, ← e) (a.ascending.ordered i (suc i) (omega arith) l) in
         let g : k < j =
-        row_before b.ascending j m (b.ascending.bytes k n) (row-own us k n) c
+        row_before b.ascending j m (b.ascending.bytes k n) (row_own us k n) c
         in omega arith
 
   agree : {ts us : List (List ℕ)} → IsRows Same ts → IsRows Same us → (i : ℕ) → i < length ts → (i < length us) × (get_or ts i [] ≡ get_or us i [])
@@ -106,4 +106,4 @@ module _ {Same : List ℕ → List ℕ → Type 0} (S : Congruence Same) where
   unique {ts} {us} a b = ext_get_or [] ts us (omega (arith, at_most a b, at_most b a)) (λ i l. (agree a b i l).1)
 
 pub settles : Settles
-settles Same S = record { one-row = one-row S; root = root S; unique = unique S; not-both = not-both S }
+settles Same S = record { one_row_lem = one_row_lem S; root = root S; unique = unique S; not_both = not_both S }

@@ -23,5 +23,5 @@ SameBand t u = band t ≡ band u
 -- the rows; and lists that are not: with a text that is not the least, and in another order
 pub record RowsByBytes : Type 0 where
   pub rows : IsRows SameBand ([] ∷ (97 ∷ []) ∷ (194 ∷ []) ∷ [])
-  pub notLeast : ¬ Ascending SameBand ([] ∷ (98 ∷ []) ∷ (194 ∷ []) ∷ [])
-  pub notInOrder : ¬ Ascending SameBand ([] ∷ (194 ∷ []) ∷ (97 ∷ []) ∷ [])
+  pub not_least : ¬ Ascending SameBand ([] ∷ (98 ∷ []) ∷ (194 ∷ []) ∷ [])
+  pub not_in_order : ¬ Ascending SameBand ([] ∷ (194 ∷ []) ∷ (97 ∷ []) ∷ [])

@@ -12,13 +12,13 @@ pub record Congruence (Same : List ℕ → List ℕ → Type 0) : Type 0 where
 
 pub record Settled (Same : List ℕ → List ℕ → Type 0) : Type 0 where
   -- a text has one row
-  pub one-row : {ts : List (List ℕ)} → Ascending Same ts → {t : List ℕ} {i j : ℕ} → IsRow Same ts t i → IsRow Same ts t j → i ≡ j
+  pub one_row_lem : {ts : List (List ℕ)} → Ascending Same ts → {t : List ℕ} {i j : ℕ} → IsRow Same ts t i → IsRow Same ts t j → i ≡ j
   -- row 0 is the empty text
   pub root : {ts : List (List ℕ)} → IsRows Same ts → (0 < length ts) × (get_or ts 0 [] ≡ [])
   -- no two lists are the rows
   pub unique : {ts us : List (List ℕ)} → IsRows Same ts → IsRows Same us → ts ≡ us
   -- where there are at most n standings there are not more
-  pub not-both : {n : ℕ} → AtMost Same n → ¬ MoreThan Same n
+  pub not_both : {n : ℕ} → AtMost Same n → ¬ MoreThan Same n
 
 abbrev pub Settles : Type 1
 Settles = (Same : List ℕ → List ℕ → Type 0) → Congruence Same → Settled Same

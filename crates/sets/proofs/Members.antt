@@ -24,10 +24,10 @@ those-ext p q i zero e = refl
 those-ext p q i (suc n) e = rw (e i (omega arith) (omega arith), those-ext p q (suc i) n (λ k h l. e k (omega arith) (omega arith)))
 
 -- those from b on, counted from b
-pub those-shift : (p : ℕ → Bool) (b i n : ℕ) → those p (b + i) n ≡ map (λ k. b + k) (those (λ k. p (b + k)) i n)
+pub those_shift : (p : ℕ → Bool) (b i n : ℕ) → those p (b + i) n ≡ map (λ k. b + k) (those (λ k. p (b + k)) i n)
 unfolding those
-those-shift p b i zero = refl
-those-shift p b i (suc n) = rw (← add-suc b i, those-shift p b (suc i) n) (go (p (b + i)) (those (λ k. p (b + k)) (suc i) n))
+those_shift p b i zero = refl
+those_shift p b i (suc n) = rw (← add-suc b i, those_shift p b (suc i) n) (go (p (b + i)) (those (λ k. p (b + k)) (suc i) n))
   where
     go : (t : Bool) (ks : List ℕ) → keep t (b + i) (map (λ k. b + k) ks) ≡ map (λ k. b + k) (keep t i ks)
     go true ks = refl
@@ -76,18 +76,18 @@ unfolding members
 members-le n s = those-le (has s) 0 n
 
 -- by the lowest bit and the others
-members-half : (n s : ℕ) → members (suc n) s ≡ keep (eqb (s % 2) 1) 0 (map (λ k. 1 + k) (members n (s / 2)))
+members_half : (n s : ℕ) → members (suc n) s ≡ keep (eqb (s % 2) 1) 0 (map (λ k. 1 + k) (members n (s / 2)))
 unfolding members those
-members-half n s =
+members_half n s =
     ap₂ (λ b ks. keep b 0 ks) (has-zero s)
-    (those-shift (has s) 1 0 n ∙ ap (map (λ k. 1 + k)) (those-ext (λ k. has s (1 + k)) (has (s / 2)) 0 n (λ k g l. rw one-add (has-suc s k))))
+    (those_shift (has s) 1 0 n ∙ ap (map (λ k. 1 + k)) (those-ext (λ k. has s (1 + k)) (has (s / 2)) 0 n (λ k g l. rw one-add (has-suc s k))))
 
-pub ones-members : (n s : ℕ) → s < 2 ^ n → ones s ≡ length (members n s)
+pub ones_members : (n s : ℕ) → s < 2 ^ n → ones s ≡ length (members n s)
 unfolding members those ones
-ones-members zero s h = ap ones (lt-one h)
-ones-members (suc n) s h =
+ones_members zero s h = ap ones (lt-one h)
+ones_members (suc n) s h =
     let ks = members n (s / 2) in
-    ones_step s ∙ rw (members-half n s, ones-members n (s / 2) (half_lt n h))
+    ones_step s ∙ rw (members_half n s, ones_members n (s / 2) (half_lt n h))
     (digit (λ d. d + length ks ≡ length (keep (eqb d 1) 0 (map (λ k. 1 + k) ks))) (simp length-map (omega arith)) (simp length-map (omega arith)) (s % 2) (low s))
 
 -- a set is known by its members: it is the sum of their powers
@@ -106,11 +106,11 @@ total-members zero s h = sym (lt-one h)
 total-members (suc n) s h =
     let ks = members n (s / 2) in
     let e : total (map (λ k. 1 + k) ks) ≡ s / 2 * 2 = rw (total-map ks, total-members n (s / 2) (half_lt n h)) in
-    rw (members-half n s)
+    rw (members_half n s)
     (digit (λ d. s % 2 ≡ d → total (keep (eqb d 1) 0 (map (λ k. 1 + k) ks)) ≡ s) (λ z. omega arith) (λ z. omega arith) (s % 2) (low s) refl)
 
-pub members-inj : (n a b : ℕ) → a < 2 ^ n → b < 2 ^ n → members n a ≡ members n b → a ≡ b
-members-inj n a b ha hb e = sym (total-members n a ha) ∙ ap total e ∙ total-members n b hb
+pub members_inj : (n a b : ℕ) → a < 2 ^ n → b < 2 ^ n → members n a ≡ members n b → a ≡ b
+members_inj n a b ha hb e = sym (total-members n a ha) ∙ ap total e ∙ total-members n b hb
 
 -- ---- the least member
 
@@ -205,12 +205,12 @@ reports-append e [] ks = refl
 reports-append e (j ∷ js) ks = ap (λ rs. e ∷ j ∷ rs) (reports-append e js ks)
 
 -- the reports of ks stored from i on
-pub reports-stored : (e : ℕ) (ks l : List ℕ) (i j : ℕ) → j ≡ i + 2 * length ks → j ≤ length l
+pub reports_stored : (e : ℕ) (ks l : List ℕ) (i j : ℕ) → j ≡ i + 2 * length ks → j ≤ length l
     → sets l i (reports e ks) ≡ take i l ++ reports e ks ++ drop j l
-reports-stored e ks l i j q h =
+reports_stored e ks l i j q h =
     let n : j ≡ i + length (reports e ks) = omega (arith, reports-length e ks) in
     rw n (sets-eq (reports e ks) l i (omega arith))
 
-pub sets-append : (l us vs : List ℕ) (i : ℕ) → sets l i (us ++ vs) ≡ sets (sets l i us) (i + length us) vs
-sets-append l [] vs i = rw add-zero
-sets-append l (u ∷ us) vs i = rw (add-suc, ← suc-add) (sets-append (set l i u) us vs (suc i))
+pub sets_append : (l us vs : List ℕ) (i : ℕ) → sets l i (us ++ vs) ≡ sets (sets l i us) (i + length us) vs
+sets_append l [] vs i = rw add-zero
+sets_append l (u ∷ us) vs i = rw (add-suc, ← suc-add) (sets_append (set l i u) us vs (suc i))

@@ -3,13 +3,13 @@ use mathlib.Core.Path.{ap, ◌∙◌}
 use Prim.Native.Nat.{◌/◌, ◌%◌}
 use native.Mathlib.Omega.{arith}
 use Rattle.sets.specs.Sets.{has}
-use Rattle.sets.specs.Table.{rowWords}
+use Rattle.sets.specs.Table.{row_words}
 use Rattle.sets.specs.Places.{RuleAtItsBit}
-use Rattle.sets.proofs.InWords.{has-setOf}
+use Rattle.sets.proofs.InWords.{has-set_of}
 use Rattle.sets.proofs.Table.{row_of, rules-part, row_word, words_row}
 
-pub rule-at-its-bit : RuleAtItsBit
+pub rule_at_its_bit : RuleAtItsBit
 unfolding has
-rule-at-its-bit table small i k h =
-    ap (λ s. has s k) (rules-part table i) ∙ has-setOf (row_of table i) (words_row rowWords table i small) k
+rule_at_its_bit table small i k h =
+    ap (λ s. has s k) (rules-part table i) ∙ has-set_of (row_of table i) (words_row row_words table i small) k
     ∙ ap (λ w. has w (k % 64)) (row_word table i (k / 64) (omega arith))

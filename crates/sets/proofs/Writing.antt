@@ -17,8 +17,8 @@ pub record Writing (v : ℕ → ℕ) (xs : List ℕ) (b i : ℕ) (ys : List ℕ)
 pub writing_start : {v : ℕ → ℕ} (xs : List ℕ) (b : ℕ) → Writing v xs b 0 xs
 writing_start xs b = record { long = refl; done = λ j h. absurd (omega arith); before = λ j h. refl; after = λ j h. refl }
 
-pub writing-next : {v : ℕ → ℕ} {xs ys : List ℕ} {b i x p : ℕ} → p ≡ b + i → p < length xs → x ≡ v i → Writing v xs b i ys → Writing v xs b (i + 1) (set ys p x)
-writing-next {v} {xs} {ys} {b} {i} {x} {p} at h e w = record {
+pub writing_next : {v : ℕ → ℕ} {xs ys : List ℕ} {b i x p : ℕ} → p ≡ b + i → p < length xs → x ≡ v i → Writing v xs b i ys → Writing v xs b (i + 1) (set ys p x)
+writing_next {v} {xs} {ys} {b} {i} {x} {p} at h e w = record {
   long = length-set ys p x ∙ w.long;
   done = λ j l. elim (dec_lt j i) [
     | yes m ↦ other (b + j) (λ q. omega arith) ∙ w.done j m

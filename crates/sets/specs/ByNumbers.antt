@@ -1,7 +1,7 @@
 -- Sets and tables of sets by numbers written out: rule k at bit k, the lowest word first, four words a row. Assumes nothing.
 use Rattle.std.specs.Prelude.{[], ◌∷◌, ◌≡◌}
 use Rattle.sets.specs.Sets.{adding, members, members_of, united, reports}
-use Rattle.sets.specs.Table.{rulesAt}
+use Rattle.sets.specs.Table.{rules_at}
 
 pub record SetsByNumbers : Type 0 where
   -- 37 is 1 + 4 + 32; with 1 in it too it is 39
@@ -15,5 +15,5 @@ pub record SetsByNumbers : Type 0 where
   -- the end, then the rule
   pub pairs : reports 4 (0 ∷ 2 ∷ []) ≡ 4 ∷ 0 ∷ 4 ∷ 2 ∷ []
   -- row 1 is words 4 to 7: 1 + 2 * 2^64 + 4 * 2^128 + 8 * 2^192
-  pub row0 : rulesAt (5 ∷ 0 ∷ 0 ∷ 0 ∷ 1 ∷ 2 ∷ 4 ∷ 8 ∷ []) 0 ≡ 5
-  pub row1 : rulesAt (5 ∷ 0 ∷ 0 ∷ 0 ∷ 1 ∷ 2 ∷ 4 ∷ 8 ∷ []) 1 ≡ 50216813883093446112047444853345085182709235473586768052225
+  pub row0 : rules_at (5 ∷ 0 ∷ 0 ∷ 0 ∷ 1 ∷ 2 ∷ 4 ∷ 8 ∷ []) 0 ≡ 5
+  pub row1 : rules_at (5 ∷ 0 ∷ 0 ∷ 0 ∷ 1 ∷ 2 ∷ 4 ∷ 8 ∷ []) 1 ≡ 50216813883093446112047444853345085182709235473586768052225

@@ -6,18 +6,18 @@ use native.Mathlib.Omega.{arith}
 use native.Mathlib.Decide.{dec_lt}
 use lib.ListN.{length, get_or, set, length-set}
 use lib.Seq.{get_or-set_same, get_or-set_other}
-use Rattle.book.proofs.Tables.{length-table, getD-table, is-table}
-use Rattle.shares.specs.Below.{sumBelow}
+use Rattle.book.proofs.Tables.{length_table, get_d_table, is_table}
+use Rattle.shares.specs.Below.{sum_below}
 use Rattle.book.specs.Content.{table}
-use Rattle.shares.specs.Shares.{allPlaces, amountAt, total_of}
+use Rattle.shares.specs.Shares.{all_places, amount_at, total_of}
 use Rattle.shares.proofs.Below.{sum_same}
 
 -- tables of terms that agree, and their total
 pub table_same : (n : ℕ) (f g : ℕ → ℕ) → ((k : ℕ) → k < n → f k ≡ g k) → table n f ≡ table n g
-table_same n f g e = is-table n g (table n f) (length-table n f) (λ k h. getD-table n f k 0 h ∙ e k h)
+table_same n f g e = is_table n g (table n f) (length_table n f) (λ k h. get_d_table n f k 0 h ∙ e k h)
 
-pub total-table : (f : ℕ → ℕ) → total_of (table allPlaces f) ≡ sumBelow f allPlaces
-total-table f = sum_same (amountAt (table allPlaces f)) f allPlaces (λ p h. getD-table allPlaces f p 0 h)
+pub total_table : (f : ℕ → ℕ) → total_of (table all_places f) ≡ sum_below f all_places
+total_table f = sum_same (amount_at (table all_places f)) f all_places (λ p h. get_d_table all_places f p 0 h)
 
 -- ---- a table that is filled from the front
 
@@ -38,4 +38,4 @@ filled_next {f} {n} {i} {x} {l} h e w = record {
 }
 
 pub filled-all : {f : ℕ → ℕ} {n i : ℕ} {l : List ℕ} → Filled f n i l → i ≡ n → l ≡ table n f
-filled-all {f} {n} {i} {l} w e = is-table n f l w.long (λ k h. w.done k (omega arith))
+filled-all {f} {n} {i} {l} w e = is_table n f l w.long (λ k h. w.done k (omega arith))

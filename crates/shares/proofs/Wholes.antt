@@ -2,20 +2,20 @@
 use mathlib.Core.List.{List}
 use Prim.Native.Nat.{ℕ, ◌≤◌, ◌<◌}
 use native.Mathlib.Omega.{arith}
-use Rattle.shares.specs.Below.{sumBelow}
-use Rattle.shares.specs.Shares.{allPlaces, limit, floorOf, amountAt, ToShare}
-use Rattle.shares.proofs.Below.{sum-at, sum_more}
+use Rattle.shares.specs.Below.{sum_below}
+use Rattle.shares.specs.Shares.{all_places, limit, floor_of, amount_at, ToShare}
+use Rattle.shares.proofs.Below.{sum_at, sum_more}
 use Rattle.shares.proofs.Laws.{floors-most}
 
 module _ {totals : List ℕ} {whole : ℕ} (w : ToShare totals whole) where
-  pub total-most : (i : ℕ) → i < allPlaces → amountAt totals i ≤ limit
-  total-most i h = omega (arith, sum-at (amountAt totals) allPlaces i h)
+  pub total-most : (i : ℕ) → i < all_places → amount_at totals i ≤ limit
+  total-most i h = omega (arith, sum_at (amount_at totals) all_places i h)
 
-  pub floors-at : (i : ℕ) → i ≤ allPlaces → sumBelow (λ k. floorOf whole (amountAt totals k)) i ≤ 1000
-  floors-at i h = omega (arith, sum_more (λ k. floorOf whole (amountAt totals k)) i allPlaces h, all)
+  pub floors_at : (i : ℕ) → i ≤ all_places → sum_below (λ k. floor_of whole (amount_at totals k)) i ≤ 1000
+  floors_at i h = omega (arith, sum_more (λ k. floor_of whole (amount_at totals k)) i all_places h, all)
     where
-      all : sumBelow (λ k. floorOf whole (amountAt totals k)) allPlaces ≤ 1000
-      all = rw w.is (floors-most (amountAt totals) allPlaces (omega arith))
+      all : sum_below (λ k. floor_of whole (amount_at totals k)) all_places ≤ 1000
+      all = rw w.is (floors-most (amount_at totals) all_places (omega arith))
 
-  pub floor-most : (i : ℕ) → i < allPlaces → floorOf whole (amountAt totals i) ≤ 1000
-  floor-most i h = omega (arith, sum-at (λ k. floorOf whole (amountAt totals k)) allPlaces i h, floors-at allPlaces (omega arith))
+  pub floor-most : (i : ℕ) → i < all_places → floor_of whole (amount_at totals i) ≤ 1000
+  floor-most i h = omega (arith, sum_at (λ k. floor_of whole (amount_at totals k)) all_places i h, floors_at all_places (omega arith))

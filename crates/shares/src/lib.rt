@@ -1,9 +1,10 @@
 // Shares of a total in thousandths: each rounded down, then the missing thousandths one each to the largest remainders.
+#![tactic(auto)]
+
 ghost use Rattle.std.specs.Prelude.{◌≡◌, ◌||◌, ◌&&◌, ◌+◌, ◌≤◌, ◌<◌, min, ltb, eqb};
-ghost use Rattle.moments.specs.Moments.{was};
 ghost use Rattle.shares.specs.Ranks.{rank};
 ghost use Rattle.book.specs.Content.{table};
-ghost use Rattle.shares.specs.Shares.{allPlaces, limit, floorOf, remainderOf, missing, shareIn, amountAt, total_of, ToShare, shares_of, number_of, value_of};
+ghost use Rattle.shares.specs.Shares.{all_places, limit, floor_of, remainder_of, missing, share_in, amount_at, total_of, ToShare, shares_of, number_of, value_of};
 
 use book::Book;
 
@@ -51,7 +52,7 @@ impl Divided {
 
 // The sum of the totals, or LIMIT + 1 where it is more: it is made only up to LIMIT, so that it never wraps.
 pub fn total(totals: &[u64; PLACES]) -> u64
-    ensures { result ≡ min (total_of (was totals)) (limit + 1) }
+    ensures { result ≡ min (total_of totals.now) (limit + 1) }
 {
     let mut sum: u64 = 0;
     let mut i: usize = 0;
@@ -69,7 +70,7 @@ pub fn total(totals: &[u64; PLACES]) -> u64
 // The thousandths of t in the whole, rounded down.
 fn floor(whole: u64, t: u64) -> u64
     requires { (0 < whole) × (t ≤ limit) }
-    ensures { result ≡ floorOf whole t }
+    ensures { result ≡ floor_of whole t }
 {
     1000 * t / whole
 }
@@ -77,7 +78,7 @@ fn floor(whole: u64, t: u64) -> u64
 // What rounding down leaves of them, in parts of the whole.
 fn remainder(whole: u64, t: u64) -> u64
     requires { (0 < whole) × (t ≤ limit) }
-    ensures { result ≡ remainderOf whole t }
+    ensures { result ≡ remainder_of whole t }
 {
     1000 * t % whole
 }
@@ -85,7 +86,7 @@ fn remainder(whole: u64, t: u64) -> u64
 // How many thousandths are missing once each share is rounded down.
 fn count_missing(totals: &[u64; PLACES], whole: u64) -> u64
     requires { ToShare totals.now whole }
-    ensures { result ≡ missing (amountAt (was totals)) allPlaces whole }
+    ensures { result ≡ missing (amount_at totals.now) all_places whole }
 {
     let mut left: u64 = 1000;
     let mut i: usize = 0;
@@ -111,8 +112,8 @@ fn stands_before(other: u64, j: usize, own: u64, i: usize) -> bool
 
 // How many stand before i.
 fn count_before(totals: &[u64; PLACES], whole: u64, i: usize) -> u64
-    requires { ToShare totals.now whole × (i < allPlaces) }
-    ensures { result ≡ rank (λ j. remainderOf whole (amountAt (was totals) j)) allPlaces i }
+    requires { ToShare totals.now whole × (i < all_places) }
+    ensures { result ≡ rank (λ j. remainder_of whole (amount_at totals.now j)) all_places i }
 {
     let own = remainder(whole, totals[i]);
     let mut n: u64 = 0;
@@ -128,8 +129,8 @@ fn count_before(totals: &[u64; PLACES], whole: u64, i: usize) -> u64
 
 // The share of i, where so many thousandths are missing.
 fn part(totals: &[u64; PLACES], whole: u64, lacking: u64, i: usize) -> u16
-    requires { ToShare totals.now whole × (lacking ≡ missing (amountAt totals.now) allPlaces whole) × (i < allPlaces) }
-    ensures { result ≡ shareIn (amountAt (was totals)) allPlaces whole i }
+    requires { ToShare totals.now whole × (lacking ≡ missing (amount_at totals.now) all_places whole) × (i < all_places) }
+    ensures { result ≡ share_in (amount_at totals.now) all_places whole i }
 {
     let down = floor(whole, totals[i]);
     if count_before(totals, whole, i) < lacking {
@@ -141,7 +142,7 @@ fn part(totals: &[u64; PLACES], whole: u64, lacking: u64, i: usize) -> u16
 // The shares of a whole.
 fn share_out(totals: &[u64; PLACES], whole: u64) -> [u16; PLACES]
     requires { ToShare totals.now whole }
-    ensures { result ≡ table allPlaces (shareIn (amountAt (was totals)) allPlaces whole) }
+    ensures { result ≡ table all_places (share_in (amount_at totals.now) all_places whole) }
 {
     let lacking = count_missing(totals, whole);
     let mut parts: [u16; PLACES] = [0; PLACES];
@@ -155,7 +156,7 @@ fn share_out(totals: &[u64; PLACES], whole: u64) -> [u16; PLACES]
 
 // The share of each total in thousandths: they add to 1,000, or are all 0 where there is nothing to share or it is past the limit.
 pub fn share(totals: &[u64; PLACES]) -> Shares
-    ensures { result ≡ shares_of (was totals) }
+    ensures { result ≡ shares_of totals.now }
 {
     let none: [u16; PLACES] = [0; PLACES];
     let whole = total(totals);

@@ -1,14 +1,14 @@
 // The lines of a walk's reports and of a tally's sums, put into a buffer.
+#![tactic(auto)]
 
 ghost use Rattle.std.specs.Prelude.{◌≡◌, ◌+◌, ◌*◌, ◌≤◌, length};
-ghost use Rattle.moments.specs.Moments.{was, left};
 ghost use Rattle.output.specs.Printed.{Puts};
-ghost use Rattle.shown.specs.Shown.{reportLines, shownLines, sumLine, sumLines};
+ghost use Rattle.shown.specs.Shown.{report_lines, shown_lines, sum_line, sum_lines};
 
 // Puts what an accepted walk answers: its reports, then the fallbacks with the held length.
 pub fn put_walk(answer: &mut [u8], at: usize, reports: &[u32], falls: u64, held: u8) -> usize
-    ensures held_len_bound { length (shownLines (was reports) falls held) ≤ 11 * length (was reports) + 64 }
-    ensures puts { Puts (shownLines (was reports) falls held) (was answer) at (left answer) result }
+    ensures bounded { length (shown_lines reports.now falls held) ≤ 11 * length reports.now + 64 }
+    ensures puts { Puts (shown_lines reports.now falls held) answer.old at answer.new result }
 {
     let end = put_reports(answer, at, reports);
     output::put_pair(answer, end, b"falls ", falls, b" held ", held as u64)
@@ -16,7 +16,7 @@ pub fn put_walk(answer: &mut [u8], at: usize, reports: &[u32], falls: u64, held:
 
 // Puts a line for each report: the end and the rule.
 fn put_reports(answer: &mut [u8], at: usize, reports: &[u32]) -> usize
-    ensures { Puts (reportLines (was reports)) (was answer) at (left answer) result }
+    ensures { Puts (report_lines reports.now) answer.old at answer.new result }
 {
     let mut to = at;
     let mut i = 0;
@@ -42,8 +42,8 @@ fn wide(x: u32) -> u64
 
 // Puts a line for each sum that is not 0.
 pub fn put_sums(answer: &mut [u8], at: usize, sums: &[u64]) -> usize
-    ensures sums_len_bound { length (sumLines 0 (was sums)) ≤ 42 * length (was sums) }
-    ensures puts { Puts (sumLines 0 (was sums)) (was answer) at (left answer) result }
+    ensures bounded { length (sum_lines 0 sums.now) ≤ 42 * length sums.now }
+    ensures puts { Puts (sum_lines 0 sums.now) answer.old at answer.new result }
 {
     let mut to = at;
     let mut rule = 0;
@@ -56,7 +56,7 @@ pub fn put_sums(answer: &mut [u8], at: usize, sums: &[u64]) -> usize
 
 // Puts the rule and its sum, where that is not 0.
 fn put_sum(answer: &mut [u8], at: usize, rule: u64, sum: u64) -> usize
-    ensures { Puts (sumLine rule sum) (was answer) at (left answer) result }
+    ensures { Puts (sum_line rule sum) answer.old at answer.new result }
 {
     if sum == 0 {
         return at;

@@ -1,1 +1,2 @@
 // What a tally sums up: definitions in specs/, theorems in proofs/. No code.
+#![tactic(auto)]

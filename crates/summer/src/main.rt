@@ -1,10 +1,10 @@
 // The summer: reads a book, `book.bin`, and a folded profile, standard input, and writes the rows used and a line for each rule whose sum is not 0;
 // or why it is refused.
+#![tactic(auto)]
 
 ghost use Rattle.std.specs.Prelude.{◌≤◌, length, take};
-ghost use Rattle.moments.specs.Moments.{was, left};
 ghost use Rattle.lent.specs.Lent.{given};
-ghost use Rattle.summer.specs.Summing.{PutsTotal, sumsRoom, SummerAnswer};
+ghost use Rattle.summer.specs.Summing.{PutsTotal, sums_room, SummerAnswer};
 
 use book::Book;
 use inputs::Both;
@@ -31,9 +31,9 @@ fn sum(book: &[u8], profile: &[u8]) {
 
 // Builds the book's tables, has the profile tallied over them, and puts the lines of both.
 fn put_answer(book: &[u8], profile: &[u8], answer: &mut [u8]) -> usize
-    requires { sumsRoom ≤ length answer.old }
-    ensures upper_bound { result ≤ length (left answer) }
-    ensures summer_answer { SummerAnswer (was book) (was profile) (take result (left answer)) }
+    requires { sums_room ≤ length answer.old }
+    ensures within { result ≤ length answer.new }
+    ensures answers { SummerAnswer book.now profile.now (take result answer.new) }
 {
     let mut goto = [0u16; inputs::ENTRIES];
     let mut fall = [0u16; inputs::ROWS];
@@ -70,7 +70,7 @@ fn total(
     answer: &mut [u8],
     at: usize,
 ) -> usize
-    ensures { PutsTotal (given goto fall held live out) rows (was profile) (was answer) at (left answer) result }
+    ensures { PutsTotal (given goto.now fall.now held.now live.now out.now) rows profile.now answer.old at answer.new result }
 {
     let mut sums = [0u64; Book::RULES];
     let tallied = tally::tally(goto, fall, held, live, out, rows, profile, &mut sums);

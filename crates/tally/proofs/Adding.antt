@@ -10,29 +10,29 @@ use lib.Dec.{eqb}
 use lib.ListN.{length, get_or, set, replicate, length-set}
 use lib.Seq.{get_or-set_same, get_or-set_other}
 use Rattle.sets.specs.Sets.{has, members}
-use Rattle.book.specs.Limits.{mostRules, mostBytes}
-use Rattle.lines.specs.Lines.{mostCount}
-use Rattle.tally.specs.Tally.{addAll}
+use Rattle.book.specs.Limits.{most_rules, most_bytes}
+use Rattle.lines.specs.Lines.{most_count}
+use Rattle.tally.specs.Tally.{add_all}
 use Rattle.sets.specs.Sets.{among}
 use Rattle.tally.specs.Passes.{Room}
 use Rattle.sets.proofs.Among.{Apart, among-members, apart-members}
-use Rattle.sets.proofs.Zeros.{zero-at}
+use Rattle.sets.proofs.Zeros.{zero_at}
 
-pub add-append : (count : ℕ) (js ks sums : List ℕ) → addAll count (js ++ ks) sums ≡ addAll count ks (addAll count js sums)
-unfolding addAll
-add-append count [] ks sums = refl
-add-append count (j ∷ js) ks sums = add-append count js ks (set sums j (get_or sums j 0 + count))
+pub add_append : (count : ℕ) (js ks sums : List ℕ) → add_all count (js ++ ks) sums ≡ add_all count ks (add_all count js sums)
+unfolding add_all
+add_append count [] ks sums = refl
+add_append count (j ∷ js) ks sums = add_append count js ks (set sums j (get_or sums j 0 + count))
 
-pub length-add : (count : ℕ) (ks sums : List ℕ) → length (addAll count ks sums) ≡ length sums
-unfolding addAll
-length-add count [] sums = refl
-length-add count (k ∷ ks) sums = length-add count ks (set sums k (get_or sums k 0 + count)) ∙ simp length-set
+pub length_add : (count : ℕ) (ks sums : List ℕ) → length (add_all count ks sums) ≡ length sums
+unfolding add_all
+length_add count [] sums = refl
+length_add count (k ∷ ks) sums = length_add count ks (set sums k (get_or sums k 0 + count)) ∙ simp length-set
 
 -- ---- a sum
 
 -- where no rule comes twice, k gets the count once, if it is among them
-add_once : (count k : ℕ) (ks sums : List ℕ) → Apart ks → k < length sums → get_or (addAll count ks sums) k 0 ≡ get_or sums k 0 + cond (among k ks) count 0
-unfolding addAll among
+add_once : (count k : ℕ) (ks sums : List ℕ) → Apart ks → k < length sums → get_or (add_all count ks sums) k 0 ≡ get_or sums k 0 + cond (among k ks) count 0
+unfolding add_all among
 add_once count k [] sums d h = rw add-zero
 add_once count k (j ∷ ks) sums (d, ds) h = add_once count k ks (set sums j (get_or sums j 0 + count)) ds (simp length-set h) ∙ go (eqb j k) refl
   where
@@ -43,8 +43,8 @@ add_once count k (j ∷ ks) sums (d, ds) h = add_once count k ks (set sums j (ge
         rw (q, rw q at d, get_or-set_same sums k (get_or sums k 0 + count) 0 h, add-zero)
     go false e = rw (get_or-set_other sums j k (get_or sums j 0 + count) 0 (λ q. eqb-false j k e (sym q)))
 
-pub add-members : (count n s k : ℕ) (sums : List ℕ) → k < n → k < length sums → get_or (addAll count (members n s) sums) k 0 ≡ get_or sums k 0 + cond (has s k) count 0
-add-members count n s k sums h l = rw (add_once count k (members n s) sums (apart-members n s) l, among-members k n s h)
+pub add_members : (count n s k : ℕ) (sums : List ℕ) → k < n → k < length sums → get_or (add_all count (members n s) sums) k 0 ≡ get_or sums k 0 + cond (has s k) count 0
+add_members count n s k sums h l = rw (add_once count k (members n s) sums (apart-members n s) l, among-members k n s h)
 
 -- ---- room
 
@@ -55,17 +55,17 @@ set-le count (s ∷ sums) zero (suc k) = omega arith
 set-le count (s ∷ sums) (suc j) zero = omega arith
 set-le count (s ∷ sums) (suc j) (suc k) = set-le count sums j k
 
-add-le : (count : ℕ) → count ≤ mostCount → (ks sums : List ℕ) (k : ℕ) → get_or (addAll count ks sums) k 0 ≤ get_or sums k 0 + mostCount * length ks
-unfolding addAll
-add-le count h [] sums k = omega arith
-add-le count h (j ∷ ks) sums k = omega (arith, add-le count h ks (set sums j (get_or sums j 0 + count)) k, set-le count sums j k)
+add_le : (count : ℕ) → count ≤ most_count → (ks sums : List ℕ) (k : ℕ) → get_or (add_all count ks sums) k 0 ≤ get_or sums k 0 + most_count * length ks
+unfolding add_all
+add_le count h [] sums k = omega arith
+add_le count h (j ∷ ks) sums k = omega (arith, add_le count h ks (set sums j (get_or sums j 0 + count)) k, set-le count sums j k)
 
 pub room-less : {a b : ℕ} {sums : List ℕ} → b ≤ a → Room a sums → Room b sums
 room-less h r = record { fits = λ k. omega (arith, r.fits k) }
 
-pub room-add : (count a b : ℕ) (ks sums : List ℕ) → count ≤ mostCount → length ks + b ≤ a → Room a sums → Room b (addAll count ks sums)
-room-add count a b ks sums h l r = record { fits = λ k. omega (arith, r.fits k, add-le count h ks sums k) }
+pub room_add : (count a b : ℕ) (ks sums : List ℕ) → count ≤ most_count → length ks + b ≤ a → Room a sums → Room b (add_all count ks sums)
+room_add count a b ks sums h l r = record { fits = λ k. omega (arith, r.fits k, add_le count h ks sums k) }
 
 -- at first there is room for the count of every rule, for each byte of the longest profile
-pub room-zeros : (a : ℕ) → a ≤ mostRules * mostBytes → Room a (replicate mostRules 0)
-room-zeros a h = record { fits = λ k. omega (arith, zero-at mostRules k) }
+pub room-zeros : (a : ℕ) → a ≤ most_rules * most_bytes → Room a (replicate most_rules 0)
+room-zeros a h = record { fits = λ k. omega (arith, zero_at most_rules k) }

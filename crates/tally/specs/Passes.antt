@@ -1,14 +1,14 @@
 -- What the contracts of inner functions ask and leave; no theorem speaks of it. Assumes nothing.
 use Rattle.std.specs.Prelude.{List, ◌≡◌, ℕ, ◌+◌, ◌*◌, ◌^◌, ◌<◌, get_or}
 use Rattle.std.specs.Int.Bits.{bit_or}
-use Rattle.sets.specs.Sets.{setOf}
+use Rattle.sets.specs.Sets.{set_of}
 use Rattle.lines.specs.declared.Pass.{Pass}
 use Rattle.lines.specs.declared.Pass.TheVariants.{Through, Ends}
-use Rattle.lines.specs.Lines.{mostCount}
+use Rattle.lines.specs.Lines.{most_count}
 
 -- room in each of the sums for so many counts
 pub record Room (counts : ℕ) (sums : List ℕ) : Type 0 where
-  pub fits : (k : ℕ) → get_or sums k 0 + mostCount * counts < 2 ^ 64
+  pub fits : (k : ℕ) → get_or sums k 0 + most_count * counts < 2 ^ 64
 
 -- A pass that gets through leaves this.
 abbrev pub After : {A : Type 0} → Pass → A → A → Type 0
@@ -17,4 +17,4 @@ After (Ends at) left told = Unit {0}
 
 -- A pass that gets through leaves a set with these rules beside those that it had.
 abbrev pub Unites : Pass → List ℕ → List ℕ → ℕ → Type 0
-Unites r old new rules = After r (setOf new) (bit_or (setOf old) rules)
+Unites r old new rules = After r (set_of new) (bit_or (set_of old) rules)

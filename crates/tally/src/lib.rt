@@ -1,14 +1,14 @@
 // The tally over a folded profile: the walk of each frame of each line's stack, and what is added.
+#![tactic(auto)]
 
 ghost use Rattle.std.specs.Prelude.{◌≡◌, ◌+◌, ◌-◌, ◌*◌, ◌≤◌, ◌<◌, length};
-ghost use Rattle.moments.specs.Moments.{was, left};
-ghost use Rattle.sets.specs.Sets.{members, setOf, plusEach};
-ghost use Rattle.sets.specs.Table.{rowWords, rulesAt};
-ghost use Rattle.book.specs.Limits.{mostRules, mostBytes};
+ghost use Rattle.sets.specs.Sets.{members, set_of, plus_each};
+ghost use Rattle.sets.specs.Table.{row_words, rules_at};
+ghost use Rattle.book.specs.Limits.{most_rules, most_bytes};
 ghost use Rattle.lent.specs.Lent.{given};
 ghost use Rattle.walk.specs.Walk.{written};
-ghost use Rattle.lines.specs.Lines.{mostCount};
-ghost use Rattle.tally.specs.Tally.{addAll, movesOver, framePass, frameRules, stackPass, stackRules, linePass, lineSums, linesPass, linesSums, sumsOf, tally_of, bufferOf};
+ghost use Rattle.lines.specs.Lines.{most_count};
+ghost use Rattle.tally.specs.Tally.{add_all, moves_over, frame_pass, frame_rules, stack_pass, stack_rules, line_pass, line_sums, lines_pass, lines_sums, sums_of, tally_of, buffer_of};
 ghost use Rattle.tally.specs.Passes.{Room, After, Unites};
 
 use answers::Tallied;
@@ -20,8 +20,8 @@ use words::WORDS;
 
 // Adds the count to the sum of each rule of a word of a set, whose first is rule `base`.
 fn add_word(word: u64, base: usize, count: u64, sums: &mut [u64; Book::RULES])
-    requires { (count ≤ mostCount) × (base + 64 ≤ mostRules) × Room (length (members 64 word)) sums.old }
-    ensures { left sums ≡ addAll count (plusEach base (members 64 word)) (was sums) }
+    requires { (count ≤ most_count) × (base + 64 ≤ most_rules) × Room (length (members 64 word)) sums.old }
+    ensures { sums.new ≡ add_all count (plus_each base (members 64 word)) sums.old }
 {
     let mut left = word;
     while left != 0 {
@@ -33,8 +33,8 @@ fn add_word(word: u64, base: usize, count: u64, sums: &mut [u64; Book::RULES])
 
 // Adds the count to the sum of each rule of a set.
 fn add(set: &[u64], count: u64, sums: &mut [u64; Book::RULES])
-    requires { (count ≤ mostCount) × (length set.now ≡ rowWords) × Room mostRules sums.old }
-    ensures { left sums ≡ addAll count (members mostRules (setOf (was set))) (was sums) }
+    requires { (count ≤ most_count) × (length set.now ≡ row_words) × Room most_rules sums.old }
+    ensures { sums.new ≡ add_all count (members most_rules (set_of set.now)) sums.old }
 {
     let mut i: usize = 0;
     while i < WORDS {
@@ -53,9 +53,9 @@ fn walk_frame(
     base: usize,
     seen: &mut [u64],
 ) -> Pass
-    requires { (base + length frame.now ≤ mostBytes) × (length seen.old ≡ rowWords) }
-    ensures pass { result ≡ framePass (movesOver goto fall n) base (was frame) }
-    ensures sees { Unites result (was seen) (left seen) (frameRules (movesOver goto fall n) (rulesAt (was out)) (was frame)) }
+    requires { (base + length frame.now ≤ most_bytes) × (length seen.old ≡ row_words) }
+    ensures pass { result ≡ frame_pass (moves_over goto.now fall.now n) base frame.now }
+    ensures sees { Unites result seen.old seen.new (frame_rules (moves_over goto.now fall.now n) (rules_at out.now) frame.now) }
 {
     let mut row = 0;
     let mut at = 0;
@@ -86,9 +86,9 @@ fn walk_stack(
     base: usize,
     seen: &mut [u64],
 ) -> Pass
-    requires { (base + length stack.now ≤ mostBytes) × (length seen.old ≡ rowWords) }
-    ensures pass { result ≡ stackPass (movesOver goto fall n) base (was stack) }
-    ensures sees { Unites result (was seen) (left seen) (stackRules (movesOver goto fall n) (rulesAt (was out)) (was stack)) }
+    requires { (base + length stack.now ≤ most_bytes) × (length seen.old ≡ row_words) }
+    ensures pass { result ≡ stack_pass (moves_over goto.now fall.now n) base stack.now }
+    ensures sees { Unites result seen.old seen.new (stack_rules (moves_over goto.now fall.now n) (rules_at out.now) stack.now) }
 {
     let mut at = 0;
     while at < stack.len() {
@@ -113,9 +113,9 @@ fn walk_line(
     base: usize,
     sums: &mut [u64; Book::RULES],
 ) -> Pass
-    requires { (base + length line.now ≤ mostBytes) × Room mostRules sums.old }
-    ensures pass { result ≡ linePass (movesOver goto fall n) base (was line) }
-    ensures adds { After result (left sums) (lineSums (movesOver goto fall n) (rulesAt (was out)) (was line) (was sums)) }
+    requires { (base + length line.now ≤ most_bytes) × Room most_rules sums.old }
+    ensures pass { result ≡ line_pass (moves_over goto.now fall.now n) base line.now }
+    ensures adds { After result sums.new (line_sums (moves_over goto.now fall.now n) (rules_at out.now) line.now sums.old) }
 {
     match lines::read_line(line) {
         Line::Sound { stack, count } => {
@@ -141,9 +141,9 @@ fn walk_lines(
     profile: &[u8],
     sums: &mut [u64; Book::RULES],
 ) -> Pass
-    requires { (length profile.now ≤ mostBytes) × Room (mostRules * length profile.now) sums.old }
-    ensures pass { result ≡ linesPass (movesOver goto fall n) (was profile) }
-    ensures adds { After result (left sums) (linesSums (movesOver goto fall n) (rulesAt (was out)) (was profile) (was sums)) }
+    requires { (length profile.now ≤ most_bytes) × Room (most_rules * length profile.now) sums.old }
+    ensures pass { result ≡ lines_pass (moves_over goto.now fall.now n) profile.now }
+    ensures adds { After result sums.new (lines_sums (moves_over goto.now fall.now n) (rules_at out.now) profile.now sums.old) }
 {
     let mut at = 0;
     while at < profile.len() {
@@ -162,8 +162,8 @@ fn walk_lines(
 
 // The new sums in front of the buffer.
 fn store(new: &[u64; Book::RULES], sums: &mut [u64])
-    requires { (length new.now ≡ mostRules) × (mostRules ≤ length sums.old) }
-    ensures { left sums ≡ written (was new) (was sums) }
+    requires { (length new.now ≡ most_rules) × (most_rules ≤ length sums.old) }
+    ensures { sums.new ≡ written new.now sums.old }
 {
     let mut at: usize = 0;
     while at < Book::RULES {
@@ -183,8 +183,8 @@ pub fn tally(
     profile: &[u8],
     sums: &mut [u64],
 ) -> Tallied
-    ensures answer { result ≡ tally_of (given goto fall held live out) n (was profile) (length (was sums)) }
-    ensures buffer { left sums ≡ bufferOf result (sumsOf (movesOver goto fall n) (rulesAt (was out)) (was profile)) (was sums) }
+    ensures answer { result ≡ tally_of (given goto.now fall.now held.now live.now out.now) n profile.now (length sums.old) }
+    ensures buffer { sums.new ≡ buffer_of result (sums_of (moves_over goto.now fall.now n) (rules_at out.now) profile.now) sums.old }
 {
     if Book::TEXT < profile.len() {
         return Tallied::TooLong;

@@ -7,60 +7,60 @@ use native.Mathlib.Omega.{arith}
 use lib.ListN.{get_or}
 use borrow.Author.Tests.{lt-ltb, le-ltb}
 use lib.Dec.{ltb}
-use Rattle.sets.proofs.Zeros.{zero-at}
-use Rattle.book.specs.Limits.{mostRules}
-use Rattle.shares.specs.Below.{sumBelow}
+use Rattle.sets.proofs.Zeros.{zero_at}
+use Rattle.book.specs.Limits.{most_rules}
+use Rattle.shares.specs.Below.{sum_below}
 use Rattle.book.specs.Content.{table}
-use Rattle.shares.specs.Shares.{allPlaces}
-use Rattle.shares.proofs.Below.{sum-next, sum_same, sum-plus, zeros-below}
-use Rattle.book.proofs.Tables.{getD-table}
-use Rattle.shares.proofs.Tables.{total-table}
+use Rattle.shares.specs.Shares.{all_places}
+use Rattle.shares.proofs.Below.{sum_next, sum_same, sum_plus, zeros-below}
+use Rattle.book.proofs.Tables.{get_d_table}
+use Rattle.shares.proofs.Tables.{total_table}
 use Rattle.leaf_totals.specs.declared.LeafTotals.{LeafTotals}
 use Rattle.leaf.specs.Leaf.{unnamed}
-use Rattle.leaf_totals.proofs.Places.{total-family}
-use Rattle.leaf_totals.specs.Record.{totalAt, wholeIn, emptyTotals}
-use Rattle.leaves.specs.Totals.{withParts}
+use Rattle.leaf_totals.proofs.Places.{total_family}
+use Rattle.leaf_totals.specs.Record.{total_at, whole_in, empty_totals}
+use Rattle.leaves.specs.Totals.{with_parts}
 use Rattle.totalled.specs.Adding.{WholeIs}
 
 -- ---- the total
 
 pub whole_is : WholeIs
 whole_is t =
-    total-table (totalAt t) ∙ sum-next (totalAt t) mostRules
-    ∙ ap₂ ◌+◌ (sum_same (totalAt t) (λ k. get_or t.totals k 0) mostRules (total-family t)) refl
+    total_table (total_at t) ∙ sum_next (total_at t) most_rules
+    ∙ ap₂ ◌+◌ (sum_same (total_at t) (λ k. get_or t.totals k 0) most_rules (total_family t)) refl
 
 -- ---- parts joined
 
 module _ (t : LeafTotals) (part : ℕ → ℕ) where
-  pub joined_at : (p : ℕ) → p < allPlaces → totalAt (withParts t part) p ≡ totalAt t p + part p
-  unfolding withParts
+  pub joined_at : (p : ℕ) → p < all_places → total_at (with_parts t part) p ≡ total_at t p + part p
+  unfolding with_parts
   joined_at p h = elim (dec_lt p unnamed) [
     | yes l ↦
-        ap (λ (b : Bool). cond b (get_or (table mostRules (λ k. totalAt t k + part k)) p 0) (totalAt t unnamed + part unnamed)) (lt-ltb p unnamed l)
-        ∙ getD-table mostRules (λ k. totalAt t k + part k) p 0 l
+        ap (λ (b : Bool). cond b (get_or (table most_rules (λ k. total_at t k + part k)) p 0) (total_at t unnamed + part unnamed)) (lt-ltb p unnamed l)
+        ∙ get_d_table most_rules (λ k. total_at t k + part k) p 0 l
     | no l ↦
         let e : p ≡ unnamed = omega arith in
-        ap (λ (b : Bool). cond b (get_or (table mostRules (λ k. totalAt t k + part k)) p 0) (totalAt t unnamed + part unnamed)) (le-ltb p unnamed (omega arith))
-        ∙ ap (λ (k : ℕ). totalAt t k + part k) (sym e)
+        ap (λ (b : Bool). cond b (get_or (table most_rules (λ k. total_at t k + part k)) p 0) (total_at t unnamed + part unnamed)) (le-ltb p unnamed (omega arith))
+        ∙ ap (λ (k : ℕ). total_at t k + part k) (sym e)
   ]
 
-  pub joined-whole : wholeIn (withParts t part) ≡ wholeIn t + sumBelow part allPlaces
+  pub joined-whole : whole_in (with_parts t part) ≡ whole_in t + sum_below part all_places
   joined-whole =
-      total-table (totalAt (withParts t part)) ∙ sum_same (totalAt (withParts t part)) (λ p. totalAt t p + part p) allPlaces joined_at
-      ∙ sum-plus (totalAt t) part allPlaces ∙ ap (λ (k : ℕ). k + sumBelow part allPlaces) (sym (total-table (totalAt t)))
+      total_table (total_at (with_parts t part)) ∙ sum_same (total_at (with_parts t part)) (λ p. total_at t p + part p) all_places joined_at
+      ∙ sum_plus (total_at t) part all_places ∙ ap (λ (k : ℕ). k + sum_below part all_places) (sym (total_table (total_at t)))
 
-  pub joined-profiles : (withParts t part).profiles ≡ t.profiles + 1
-  unfolding withParts
-  joined-profiles = refl
+  pub joined_profiles : (with_parts t part).profiles ≡ t.profiles + 1
+  unfolding with_parts
+  joined_profiles = refl
 
 -- ---- nothing counted
 
-pub empty-totals : (p : ℕ) → totalAt emptyTotals p ≡ 0
+pub empty-totals : (p : ℕ) → total_at empty_totals p ≡ 0
 empty-totals p = go (ltb p unnamed)
   where
-    go : (b : Bool) → cond b (get_or emptyTotals.totals p 0) 0 ≡ 0
-    go true = zero-at mostRules p
+    go : (b : Bool) → cond b (get_or empty_totals.totals p 0) 0 ≡ 0
+    go true = zero_at most_rules p
     go false = refl
 
-pub empty-whole : wholeIn emptyTotals ≡ 0
-empty-whole = total-table (totalAt emptyTotals) ∙ zeros-below (totalAt emptyTotals) allPlaces (λ p h. empty-totals p)
+pub empty-whole : whole_in empty_totals ≡ 0
+empty-whole = total_table (total_at empty_totals) ∙ zeros-below (total_at empty_totals) all_places (λ p h. empty-totals p)

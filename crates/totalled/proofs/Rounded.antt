@@ -4,16 +4,16 @@ use mathlib.Core.List.{List}
 use mathlib.Core.Path.{◌≡◌, sym, ap₂, ◌∙◌}
 use Prim.Native.Nat.{ℕ, ◌+◌, ◌≤◌, ◌<◌}
 use native.Mathlib.Omega.{arith}
-use Rattle.shares.specs.Below.{sumBelow}
-use Rattle.shares.specs.Shares.{allPlaces, limit, floorOf, remainderOf, amountAt, total_of}
+use Rattle.shares.specs.Below.{sum_below}
+use Rattle.shares.specs.Shares.{all_places, limit, floor_of, remainder_of, amount_at, total_of}
 use Rattle.shares.specs.Demands.{share, floor, Ahead, Shared}
-use Rattle.shares.proofs.Below.{sum-none, sum-next, sum_zeros}
+use Rattle.shares.proofs.Below.{sum_none, sum_next, sum_zeros}
 use Rattle.shares.proofs.Demands.{demands}
 
 -- a sum of just the first four and the last
-sum-ends : (f : ℕ → ℕ) → ((i : ℕ) → 4 ≤ i → i < 256 → f i ≡ 0) → sumBelow f allPlaces ≡ f 0 + f 1 + f 2 + f 3 + f 256
-sum-ends f z =
-    omega (arith, sum-next f 256, sum_zeros f 4 252 z, sum-next f 3, sum-next f 2, sum-next f 1, sum-next f 0, sum-none f)
+sum_ends : (f : ℕ → ℕ) → ((i : ℕ) → 4 ≤ i → i < 256 → f i ≡ 0) → sum_below f all_places ≡ f 0 + f 1 + f 2 + f 3 + f 256
+sum_ends f z =
+    omega (arith, sum_next f 256, sum_zeros f 4 252 z, sum_next f 3, sum_next f 2, sum_next f 1, sum_next f 0, sum_none f)
 
 -- a share that is rounded down, or one more
 pub record Rounds (s f : ℕ) : Type 0 where
@@ -32,26 +32,26 @@ ahead (inr y) (inl z) h p q = omega arith
 
 -- the totals are a, b, c and d in the first places and e in the last, and 0 between
 pub record AtEnds (totals : List ℕ) (a b c d e : ℕ) : Type 0 where
-  pub at0 : amountAt totals 0 ≡ a
-  pub at1 : amountAt totals 1 ≡ b
-  pub at2 : amountAt totals 2 ≡ c
-  pub at3 : amountAt totals 3 ≡ d
-  pub last : amountAt totals 256 ≡ e
-  pub between : (p : ℕ) → 4 ≤ p → p < 256 → amountAt totals p ≡ 0
+  pub at0 : amount_at totals 0 ≡ a
+  pub at1 : amount_at totals 1 ≡ b
+  pub at2 : amount_at totals 2 ≡ c
+  pub at3 : amount_at totals 3 ≡ d
+  pub last : amount_at totals 256 ≡ e
+  pub between : (p : ℕ) → 4 ≤ p → p < 256 → amount_at totals p ≡ 0
 
 -- a total that is rounded down, the remainder, and which of two stands before the other
-pub floor-of : (totals : List ℕ) (i : ℕ) {w v : ℕ} → total_of totals ≡ w → amountAt totals i ≡ v → floor totals i ≡ floorOf w v
-floor-of totals i q z = ap₂ floorOf q z
+pub floor_of_lem : (totals : List ℕ) (i : ℕ) {w v : ℕ} → total_of totals ≡ w → amount_at totals i ≡ v → floor totals i ≡ floor_of w v
+floor_of_lem totals i q z = ap₂ floor_of q z
 
-pub larger-at : (totals : List ℕ) (i j : ℕ) {w u v : ℕ} → total_of totals ≡ w → amountAt totals i ≡ u → amountAt totals j ≡ v → remainderOf w v < remainderOf w u → Ahead totals i j
-larger-at totals i j q y z l = inl (rw (q, y, z) l)
+pub larger_at : (totals : List ℕ) (i j : ℕ) {w u v : ℕ} → total_of totals ≡ w → amount_at totals i ≡ u → amount_at totals j ≡ v → remainder_of w v < remainder_of w u → Ahead totals i j
+larger_at totals i j q y z l = inl (rw (q, y, z) l)
 
-pub lower-at : (totals : List ℕ) (i j : ℕ) {w u v : ℕ} → total_of totals ≡ w → amountAt totals i ≡ u → amountAt totals j ≡ v → remainderOf w u ≡ remainderOf w v → i < j → Ahead totals i j
-lower-at totals i j q y z e l = inr (rw (q, y, z) e, l)
+pub lower_at : (totals : List ℕ) (i j : ℕ) {w u v : ℕ} → total_of totals ≡ w → amount_at totals i ≡ u → amount_at totals j ≡ v → remainder_of w u ≡ remainder_of w v → i < j → Ahead totals i j
+lower_at totals i j q y z e l = inr (rw (q, y, z) e, l)
 
 module _ {totals : List ℕ} {a b c d e : ℕ} (x : AtEnds totals a b c d e) where
   pub whole_is : total_of totals ≡ a + b + c + d + e
-  whole_is = omega (arith, sum-ends (amountAt totals) x.between, x.at0, x.at1, x.at2, x.at3, x.last)
+  whole_is = omega (arith, sum_ends (amount_at totals) x.between, x.at0, x.at1, x.at2, x.at3, x.last)
 
   -- a share between is 0
   pub none_between : (p : ℕ) → 4 ≤ p → p < 256 → share totals p ≡ 0
@@ -61,13 +61,13 @@ module _ {totals : List ℕ} {a b c d e : ℕ} (x : AtEnds totals a b c d e) whe
     shared : Shared totals
     shared = (demands totals).shared some most
 
-    pub adds-up : share totals 0 + share totals 1 + share totals 2 + share totals 3 + share totals 256 ≡ 1000
-    adds-up = sym (sum-ends (share totals) none_between) ∙ shared.fair.adds
+    pub adds_up : share totals 0 + share totals 1 + share totals 2 + share totals 3 + share totals 256 ≡ 1000
+    adds_up = sym (sum_ends (share totals) none_between) ∙ shared.fair.adds
 
     -- ---- by the numbers
 
-    pub round-at : (i : ℕ) {f : ℕ} → i < 257 → floor totals i ≡ f → Rounds (share totals i) f
-    round-at i l q = rounds (shared.fair.rounded i l) q
+    pub round_at : (i : ℕ) {f : ℕ} → i < 257 → floor totals i ≡ f → Rounds (share totals i) f
+    round_at i l q = rounds (shared.fair.rounded i l) q
 
-    pub ahead-at : (i j : ℕ) {f g : ℕ} → i < 257 → j < 257 → Ahead totals i j → floor totals i ≡ f → floor totals j ≡ g → share totals j + f ≤ share totals i + g
-    ahead-at i j h l o p q = ahead (shared.fair.rounded i h) (shared.fair.rounded j l) (shared.fair.largest i j h l o) p q
+    pub ahead_at : (i j : ℕ) {f g : ℕ} → i < 257 → j < 257 → Ahead totals i j → floor totals i ≡ f → floor totals j ≡ g → share totals j + f ≤ share totals i + g
+    ahead_at i j h l o p q = ahead (shared.fair.rounded i h) (shared.fair.rounded j l) (shared.fair.largest i j h l o) p q

@@ -1,1 +1,2 @@
 // What leaf totals add up to: definitions in specs/, theorems in proofs/. No code.
+#![tactic(auto)]

@@ -13,15 +13,15 @@ use borrow.Author.Tests.{le-ltb}
 use Rattle.sets.specs.Sets.{reports as pairs}
 use Rattle.sets.proofs.Members.{reports-length}
 use Rattle.meaning.specs.Tables.{Five}
-use Rattle.book.specs.Limits.{mostBytes}
-use Rattle.lent.specs.Lent.{hasRows}
+use Rattle.book.specs.Limits.{most_bytes}
+use Rattle.lent.specs.Lent.{has_rows}
 use Rattle.one_byte.specs.declared.Moved.{Moved}
 use Rattle.one_byte.specs.declared.Moved.TheVariants.{Reached, Lost}
-use Rattle.one_byte.specs.Move.{moveFrom, onMove}
+use Rattle.one_byte.specs.Move.{move_from, on_move}
 use Rattle.one_byte.proofs.Laws.{Within, move-within}
 use Rattle.walk.specs.declared.Counted.{Counted}
 use Rattle.walk.specs.declared.Counted.TheVariants.{Read, Stopped}
-use Rattle.walk.specs.Walk.{reported, run_from, run_of, reportsFrom, reportsOf, written, answer_of, walk_of}
+use Rattle.walk.specs.Walk.{reported, run_from, run_of, reports_from, reports_of, written, answer_of_lem, walk_of}
 
 -- ---- a run, byte by byte
 
@@ -32,26 +32,26 @@ module _ (goto fall out : List ℕ) (n : ℕ) (text : List ℕ) (at row : ℕ) w
   run_end falls made h = rw drop_of_length-le
 
   -- a byte's part in a run, where its move is m
-  pub run-move : (falls made : ℕ) (m : Moved) → at < length text → moveFrom goto fall n row (get_or text at 0) 0 ≡ m
+  pub run-move : (falls made : ℕ) (m : Moved) → at < length text → move_from goto fall n row (get_or text at 0) 0 ≡ m
       → run_from goto fall out n at row falls made (drop at text)
-      ≡ onMove m (λ to more. run_from goto fall out n (at + 1) to (falls + more) (made + length (reported out to)) (drop (at + 1) text)) (Stopped at)
+      ≡ on_move m (λ to more. run_from goto fall out n (at + 1) to (falls + more) (made + length (reported out to)) (drop (at + 1) text)) (Stopped at)
   unfolding run_from
   run-move falls made m h e = rw (drop-cons text at 0, e, add-one at)
 
   -- the reports likewise
-  reports-end : length text ≤ at → reportsFrom goto fall out n at row (drop at text) ≡ []
-  unfolding reportsFrom
-  reports-end h = rw drop_of_length-le
+  reports_end : length text ≤ at → reports_from goto fall out n at row (drop at text) ≡ []
+  unfolding reports_from
+  reports_end h = rw drop_of_length-le
 
-  pub reports-move : (m : Moved) → at < length text → moveFrom goto fall n row (get_or text at 0) 0 ≡ m
-      → reportsFrom goto fall out n at row (drop at text)
-      ≡ onMove m (λ to more. pairs (at + 1) (reported out to) ++ reportsFrom goto fall out n (at + 1) to (drop (at + 1) text)) []
-  unfolding reportsFrom
+  pub reports-move : (m : Moved) → at < length text → move_from goto fall n row (get_or text at 0) 0 ≡ m
+      → reports_from goto fall out n at row (drop at text)
+      ≡ on_move m (λ to more. pairs (at + 1) (reported out to) ++ reports_from goto fall out n (at + 1) to (drop (at + 1) text)) []
+  unfolding reports_from
   reports-move m h e = rw (drop-cons text at 0, e, add-one at)
 
   -- where there are reports to come, there is a byte to come
-  pub reports-some : 0 < length (reportsFrom goto fall out n at row (drop at text)) → at < length text
-  reports-some h = elim (dec_lt at (length text)) [ yes l ↦ l | no g ↦ absurd (omega (arith, rw (reports-end (omega arith)) at h)) ]
+  pub reports-some : 0 < length (reports_from goto fall out n at row (drop at text)) → at < length text
+  reports-some h = elim (dec_lt at (length text)) [ yes l ↦ l | no g ↦ absurd (omega (arith, rw (reports_end (omega arith)) at h)) ]
 
 -- ---- the number of reports and their list
 
@@ -60,46 +60,46 @@ abbrev pub Right : ℕ → ℕ → List ℕ → Counted → Type 0
 Right n made rs (Read total falls row) = (row < n) × (2 * total ≡ 2 * made + length rs)
 Right n made rs (Stopped at) = Unit {0}
 
-right-more : (n made e : ℕ) (ks rs : List ℕ) (r : Counted) → Right n (made + length ks) rs r → Right n made (pairs e ks ++ rs) r
-right-more n made e ks rs (Read total falls row) h = (h.0, simp (length-append, reports-length) (omega arith))
-right-more n made e ks rs (Stopped at) h = tt
+right_more : (n made e : ℕ) (ks rs : List ℕ) (r : Counted) → Right n (made + length ks) rs r → Right n made (pairs e ks ++ rs) r
+right_more n made e ks rs (Read total falls row) h = (h.0, simp (length-append, reports-length) (omega arith))
+right_more n made e ks rs (Stopped at) h = tt
 
 module _ (goto fall out : List ℕ) (n : ℕ) where
-  right-move : (at falls made : ℕ) (text : List ℕ) (m : Moved) → Within n m
-      → ((to falls made : ℕ) → to < n → Right n made (reportsFrom goto fall out n (at + 1) to text) (run_from goto fall out n (at + 1) to falls made text))
-      → Right n made (onMove m (λ to more. pairs (at + 1) (reported out to) ++ reportsFrom goto fall out n (at + 1) to text) [])
-      (onMove m (λ to more. run_from goto fall out n (at + 1) to (falls + more) (made + length (reported out to)) text) (Stopped at))
-  right-move at falls made text (Reached to added) w h =
+  right_move : (at falls made : ℕ) (text : List ℕ) (m : Moved) → Within n m
+      → ((to falls made : ℕ) → to < n → Right n made (reports_from goto fall out n (at + 1) to text) (run_from goto fall out n (at + 1) to falls made text))
+      → Right n made (on_move m (λ to more. pairs (at + 1) (reported out to) ++ reports_from goto fall out n (at + 1) to text) [])
+      (on_move m (λ to more. run_from goto fall out n (at + 1) to (falls + more) (made + length (reported out to)) text) (Stopped at))
+  right_move at falls made text (Reached to added) w h =
       let total = made + length (reported out to) in
-      right-more n made (at + 1) (reported out to) (reportsFrom goto fall out n (at + 1) to text) (run_from goto fall out n (at + 1) to (falls + added) total text)
+      right_more n made (at + 1) (reported out to) (reports_from goto fall out n (at + 1) to text) (run_from goto fall out n (at + 1) to (falls + added) total text)
       (h to (falls + added) total w)
-  right-move at falls made text Lost w h = tt
+  right_move at falls made text Lost w h = tt
 
-  run-right : (text : List ℕ) (at row falls made : ℕ) → row < n
-      → Right n made (reportsFrom goto fall out n at row text) (run_from goto fall out n at row falls made text)
-  unfolding run_from reportsFrom
-  run-right [] at row falls made h = (h, omega arith)
-  run-right (c ∷ text) at row falls made h =
-      right-move at falls made text (moveFrom goto fall n row c 0) (move-within goto fall n row c 0) (λ to f m w. run-right text (at + 1) to f m w)
+  run_right : (text : List ℕ) (at row falls made : ℕ) → row < n
+      → Right n made (reports_from goto fall out n at row text) (run_from goto fall out n at row falls made text)
+  unfolding run_from reports_from
+  run_right [] at row falls made h = (h, omega arith)
+  run_right (c ∷ text) at row falls made h =
+      right_move at falls made text (move_from goto fall n row c 0) (move-within goto fall n row c 0) (λ to f m w. run_right text (at + 1) to f m w)
 
   -- what a whole run r that is q tells
-  pub counted : (text : List ℕ) {r q : Counted} → 0 < n → r ≡ run_of goto fall out n text → r ≡ q → Right n 0 (reportsOf goto fall out n text) q
-  counted text h p q = rw (← q, p) (run-right text 0 0 0 0 h)
+  pub counted : (text : List ℕ) {r q : Counted} → 0 < n → r ≡ run_of goto fall out n text → r ≡ q → Right n 0 (reports_of goto fall out n text) q
+  counted text h p q = rw (← q, p) (run_right text 0 0 0 0 h)
 
 -- ---- a run of stores
 
-pub stored-all : (l xs : List ℕ) → length xs ≤ length l → stored l 0 xs ≡ written xs l
+pub stored_all : (l xs : List ℕ) → length xs ≤ length l → stored l 0 xs ≡ written xs l
 unfolding written
-stored-all l xs h = rw zero-add at (sets-eq xs l 0 (omega arith))
+stored_all l xs h = rw zero-add at (sets-eq xs l 0 (omega arith))
 
-pub stored-none : (l xs : List ℕ) (i : ℕ) → length xs ≡ 0 → stored l i xs ≡ l
-stored-none l [] i h = refl
-stored-none l (x ∷ xs) i h = absurd (omega arith)
+pub stored_none : (l xs : List ℕ) (i : ℕ) → length xs ≡ 0 → stored l i xs ≡ l
+stored_none l [] i h = refl
+stored_none l (x ∷ xs) i h = absurd (omega arith)
 
 -- ---- the rows, and the answer of a walk that reaches its run
 
 module _ (b : Five) (n : ℕ) where
   -- where the run r is q
-  pub walked : (text : List ℕ) (space : ℕ) {r q : Counted} → length text ≤ mostBytes → hasRows b n ≡ true
-      → r ≡ run_of b.goto b.fall b.out n text → r ≡ q → answer_of b.held (space / 2) q ≡ walk_of b n text space
-  walked text space x y p q = rw (← q, p) (rw (le-ltb mostBytes (length text) x, y))
+  pub walked : (text : List ℕ) (space : ℕ) {r q : Counted} → length text ≤ most_bytes → has_rows b n ≡ true
+      → r ≡ run_of b.goto b.fall b.out n text → r ≡ q → answer_of_lem b.held (space / 2) q ≡ walk_of b n text space
+  walked text space x y p q = rw (← q, p) (rw (le-ltb most_bytes (length text) x, y))

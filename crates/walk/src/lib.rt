@@ -1,14 +1,14 @@
 // The walk over tables: two passes over a text, of which the second writes the reports.
+#![tactic(auto)]
 
 ghost use Rattle.std.specs.Prelude.{◌≡◌, suc, ◌+◌, ◌*◌, ◌≤◌, ◌<◌, length, get_or};
 ghost use Rattle.std.proofs.lemmas.List.Edits.{sets as stored};
-ghost use Rattle.moments.specs.Moments.{was, left};
 ghost use Rattle.sets.specs.Sets.{reports as pairs};
-ghost use Rattle.sets.specs.Table.{rowWords};
-ghost use Rattle.meaning.specs.Tables.{gotoAt};
-ghost use Rattle.book.specs.Limits.{mostRules};
+ghost use Rattle.sets.specs.Table.{row_words};
+ghost use Rattle.meaning.specs.Tables.{goto_at};
+ghost use Rattle.book.specs.Limits.{most_rules};
 ghost use Rattle.lent.specs.Lent.{given};
-ghost use Rattle.walk.specs.Walk.{Walkable, reported, run_of, reportsOf, written, walk_of, bufferOf};
+ghost use Rattle.walk.specs.Walk.{Walkable, reported, run_of, reports_of, written, walk_of, buffer_of};
 
 use answers::Walked;
 use book::Book;
@@ -31,22 +31,22 @@ fn wide(x: u16) -> usize
 // A row's entry on a byte, and the row that it falls to.
 fn entry_at(goto: &[u16], row: usize, byte: u8) -> usize
     requires { 256 * row + 256 ≤ length goto.now }
-    ensures { result ≡ gotoAt (was goto) row byte }
+    ensures { result ≡ goto_at goto.now row byte }
 {
     wide(goto[256 * row + byte as usize])
 }
 
 fn fall_at(fall: &[u16], row: usize) -> usize
     requires { row < length fall.now }
-    ensures { result ≡ get_or (was fall) row 0 }
+    ensures { result ≡ get_or fall.now row 0 }
 {
     wide(fall[row])
 }
 
 // How many rules a row reports.
 fn many(out: &[u64], row: usize) -> usize
-    requires { rowWords * suc row ≤ length out.now }
-    ensures { (result ≡ length (reported (was out) row)) × (result ≤ mostRules) }
+    requires { row_words * suc row ≤ length out.now }
+    ensures { (result ≡ length (reported out.now row)) × (result ≤ most_rules) }
 {
     let start = WORDS * row;
     let mut all = 0;
@@ -61,7 +61,7 @@ fn many(out: &[u64], row: usize) -> usize
 // The first pass, which writes nothing. The loop over falls is left by the outer label where a look finds what no build writes.
 fn count(goto: &[u16], fall: &[u16], out: &[u64], n: usize, text: &[u8]) -> Counted
     requires { Walkable goto.now fall.now out.now n text.now }
-    ensures { result ≡ run_of (was goto) (was fall) (was out) n (was text) }
+    ensures { result ≡ run_of goto.now fall.now out.now n text.now }
 {
     let mut row = 0;
     let mut falls: u64 = 0;
@@ -98,9 +98,9 @@ fn count(goto: &[u16], fall: &[u16], out: &[u64], n: usize, text: &[u8]) -> Coun
 
 // Writes (end, k) from reports[at] on for each rule k of a row, ascending, and answers where the next would go.
 fn report(out: &[u64], row: usize, end: u32, reports: &mut [u32], at: usize) -> usize
-    requires { (rowWords * suc row ≤ length out.now) × (at + 2 * length (reported out.now row) ≤ length reports.old) }
-    ensures { (result ≡ at + 2 * length (reported (was out) row))
-        × (left reports ≡ stored (was reports) at (pairs end (reported (was out) row))) }
+    requires { (row_words * suc row ≤ length out.now) × (at + 2 * length (reported out.now row) ≤ length reports.old) }
+    ensures { (result ≡ at + 2 * length (reported out.now row))
+        × (reports.new ≡ stored reports.old at (pairs end (reported out.now row))) }
 {
     let start = WORDS * row;
     let mut to = at;
@@ -123,8 +123,8 @@ fn write(
     reports: &mut [u32],
 )
     requires walkable { Walkable goto.now fall.now out.now n text.now }
-    requires text_len { (length (reportsOf goto.now fall.now out.now n text.now) ≡ places) × (places ≤ length reports.old) }
-    ensures { left reports ≡ written (reportsOf (was goto) (was fall) (was out) n (was text)) (was reports) }
+    requires text_len { (length (reports_of goto.now fall.now out.now n text.now) ≡ places) × (places ≤ length reports.old) }
+    ensures { reports.new ≡ written (reports_of goto.now fall.now out.now n text.now) reports.old }
 {
     let mut row = 0;
     let mut to = 0;
@@ -155,8 +155,8 @@ pub fn walk(
     text: &[u8],
     reports: &mut [u32],
 ) -> Walked
-    ensures answer { result ≡ walk_of (given goto fall held live out) n (was text) (length (was reports)) }
-    ensures buffer { left reports ≡ bufferOf result (reportsOf (was goto) (was fall) (was out) n (was text)) (was reports) }
+    ensures answer { result ≡ walk_of (given goto.now fall.now held.now live.now out.now) n text.now (length reports.old) }
+    ensures buffer { reports.new ≡ buffer_of result (reports_of goto.now fall.now out.now n text.now) reports.old }
 {
     if Book::TEXT < text.len() {
         return Walked::TooLong;

@@ -1,6 +1,8 @@
 // Walks and tallies by the thousand, over the tables of drawn books and over damaged ones: what the proved walk and tally answer is compared with a second
 // matcher, which is written from the paper's words alone. Of the proved crates it takes the tables of a book, and its rules from the record that is read:
 // `cases` compares both with the book's bytes.
+#![tactic(auto)]
+
 mod compare;
 mod draw;
 mod folded;

@@ -4,8 +4,8 @@ use Prim.Native.Nat.{ℕ, ◌/◌, ◌≤◌, ◌<◌}
 use native.Mathlib.Omega.{arith}
 use native.Mathlib.Decide.{dec_lt}
 use borrow.Author.Tests.{lt-ltb, le-ltb}
-use Rattle.sets.specs.Table.{rowWords}
-use Rattle.widen.specs.Widen.{widenOf, LiveFirst}
+use Rattle.sets.specs.Table.{row_words}
+use Rattle.widen.specs.Widen.{widen_of, LiveFirst}
 use Rattle.widen.specs.declared.Widened.{Widened}
 use Rattle.widen.specs.declared.Widened.TheVariants.{Done, Short}
 
@@ -14,20 +14,20 @@ not_short p q = absurd (let z : ◌≡◌ {A = ℕ} 0 1 = cc in omega arith)
 
 pub judged : LiveFirst
 judged a b live out = record {
-  done = (room, λ (x, y). rw (le-ltb (live / rowWords) a x, le-ltb (out / rowWords) b y));
-  live-short = no-live;
-  out-short = no-out;
+  done = (room, λ (x, y). rw (le-ltb (live / row_words) a x, le-ltb (out / row_words) b y));
+  live-short = no_live;
+  out-short = no_out;
 }
   where
-    no-live : live / rowWords < a → widenOf a b live out ≡ Short a
-    no-live h = rw (lt-ltb (live / rowWords) a h)
+    no_live : live / row_words < a → widen_of a b live out ≡ Short a
+    no_live h = rw (lt-ltb (live / row_words) a h)
 
-    no-out : a ≤ live / rowWords → out / rowWords < b → widenOf a b live out ≡ Short b
-    no-out l h = rw (le-ltb (live / rowWords) a l, lt-ltb (out / rowWords) b h)
+    no_out : a ≤ live / row_words → out / row_words < b → widen_of a b live out ≡ Short b
+    no_out l h = rw (le-ltb (live / row_words) a l, lt-ltb (out / row_words) b h)
 
-    room : widenOf a b live out ≡ Done → (a ≤ live / rowWords) × (b ≤ out / rowWords)
+    room : widen_of a b live out ≡ Done → (a ≤ live / row_words) × (b ≤ out / row_words)
     room e =
-        elim (dec_lt (live / rowWords) a) [
-          | yes h ↦ not_short (no-live h) e
-          | no g ↦ elim (dec_lt (out / rowWords) b) [ yes h ↦ not_short (no-out (omega arith) h) e | no k ↦ (omega arith, omega arith) ]
+        elim (dec_lt (live / row_words) a) [
+          | yes h ↦ not_short (no_live h) e
+          | no g ↦ elim (dec_lt (out / row_words) b) [ yes h ↦ not_short (no_out (omega arith) h) e | no k ↦ (omega arith, omega arith) ]
         ]

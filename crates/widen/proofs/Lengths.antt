@@ -4,8 +4,8 @@ use Rattle.book.specs.Content.{table}
 use Rattle.widen.specs.Widen.{widened}
 use Rattle.widen.specs.Lengths.{WidenedLengths, WidenedBuffers}
 
-pub widened-lengths : WidenedLengths
-widened-lengths = record {
+pub widened_lengths : WidenedLengths
+widened_lengths = record {
   room = record { number_is = refl; value-is = refl };
   more_room = record { number_is = refl; value-is = refl };
   no_row = record { number_is = refl; value-is = refl };
@@ -16,6 +16,6 @@ widened-lengths = record {
   most-short = record { number_is = refl; value-is = refl };
 }
 
-pub widened-buffers : WidenedBuffers
+pub widened_buffers : WidenedBuffers
 unfolding widened table
-widened-buffers = record { done = refl; longer = refl; short = refl }
+widened_buffers = record { done = refl; longer = refl; short = refl }

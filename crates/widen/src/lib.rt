@@ -1,8 +1,8 @@
 // Old tables made new: live and out had one word a row, and have as many as `sets` gives a row now.
+#![tactic(auto)]
 
 ghost use Rattle.std.specs.Prelude.{◌≡◌, length};
-ghost use Rattle.moments.specs.Moments.{was, left};
-ghost use Rattle.widen.specs.Widen.{widenedAt, widened, widenOf, bufferOf, number_of, value_of};
+ghost use Rattle.widen.specs.Widen.{widened_at, widened, widen_of, buffer_of, number_of, value_of};
 
 use words::WORDS;
 
@@ -36,7 +36,7 @@ impl Widened {
 
 // What comes to stand at place i.
 fn at(old: &[u64], i: usize) -> u64
-    ensures { result ≡ widenedAt (was old) i }
+    ensures { result ≡ widened_at old.now i }
 {
     if i % WORDS == 0 {
         return words::word(old, i / WORDS);
@@ -46,7 +46,7 @@ fn at(old: &[u64], i: usize) -> u64
 
 // Every place of the new buffer, in order.
 fn spread(old: &[u64], new: &mut [u64])
-    ensures { left new ≡ widened (length (was new)) (was old) }
+    ensures { new.new ≡ widened (length new.old) old.now }
 {
     let mut i = 0;
     while i < new.len() {
@@ -57,10 +57,10 @@ fn spread(old: &[u64], new: &mut [u64])
 
 // Puts each old number first of its row's words, zeros behind it, and 0 in every later place. Where a buffer has no room for that, nothing is changed.
 pub fn widen(old_live: &[u64], old_out: &[u64], live: &mut [u64], out: &mut [u64]) -> Widened
-    ensures fact_1 { result ≡ widenOf (length (was old_live)) (length (was old_out))
-        (length (was live)) (length (was out)) }
-    ensures fact_2 { left live ≡ bufferOf result (was old_live) (was live) }
-    ensures fact_3 { left out ≡ bufferOf result (was old_out) (was out) }
+    ensures answer { result ≡ widen_of (length old_live.now) (length old_out.now)
+        (length live.old) (length out.old) }
+    ensures live_left { live.new ≡ buffer_of result old_live.now live.old }
+    ensures out_left { out.new ≡ buffer_of result old_out.now out.old }
 {
     if live.len() / WORDS < old_live.len() {
         return Widened::Short(old_live.len());

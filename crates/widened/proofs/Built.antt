@@ -4,7 +4,7 @@ use Prim.Native.Nat.{ℕ}
 use Rattle.meaning.specs.Tables.{Five, Alike}
 use Rattle.lent.specs.Lent.{AsLong}
 use Rattle.promised.specs.Exact.{OfWords}
-use Rattle.promised.proofs.AsBefore.{of-sound}
+use Rattle.promised.proofs.AsBefore.{of_sound}
 use Rattle.listed.proofs.Whole.{built}
 use Rattle.widened.specs.OneWord.{wide}
 use Rattle.widened.specs.Built.{WideSame, WideBuilt}
@@ -16,7 +16,7 @@ words b live out w = record { live-words = words-widened live b.live w.live-word
 
 alike : (b b' : Five) (live out : ℕ) → AsLong (wide b live out) b' → OfWords b → OfWords b' → Alike (wide b live out) b'
 alike b b' live out k w w' = let v = words b live out w in record {
-  goto = sym k.goto-long;
+  goto = sym k.goto_long;
   fall = sym k.fall-long;
   held = sym k.held-long;
   live = sym k.live-long;
@@ -29,4 +29,4 @@ wide-same r b b' n n' live out x done y k w w' = tables-equal live out x done y 
 
 pub wide-built : WideBuilt
 wide-built c zero a e b n live out x done k w w' =
-    wide-same _ b c.new n _ live out x done (built (of-sound a e c.promise) zero).0 k w w'
+    wide-same _ b c.new n _ live out x done (built (of_sound a e c.promise) zero).0 k w w'

@@ -6,40 +6,40 @@ use Prim.Native.Nat.{ℕ, zero, suc, ◌+◌, ◌-◌, ◌^◌, ◌≤◌, ◌<�
 use native.Mathlib.Omega.{arith}
 use lib.Pow.{pow_mono}
 use lib.ListN.{length, get_or}
-use Rattle.rows.proofs.Rows.{one-row, unique}
+use Rattle.rows.proofs.Rows.{one_row_lem, unique}
 use Rattle.sets.specs.Sets.{has, those, members}
-use Rattle.sets.specs.Table.{rulesAt}
-use Rattle.sets.proofs.Laws.{has_above, setWhere-lt}
+use Rattle.sets.specs.Table.{rules_at}
+use Rattle.sets.proofs.Laws.{has_above, set_where-lt}
 use Rattle.sets.proofs.Members.{those-append}
 use Rattle.meaning.specs.Rules.{Rules, count}
 use Rattle.meaning.specs.Standing.{ends, out}
-use Rattle.meaning.specs.Tables.{Numbers, Entry, goesOnAt, Gotos, Five, gotoAt, columns, Tables, Alike}
+use Rattle.meaning.specs.Tables.{Numbers, Entry, goes_on_at, Gotos, Five, goto_at, columns, Tables, Alike}
 use Rattle.meaning.proofs.Congruent.{congruence}
-use Rattle.meaning.proofs.Shorter.{fall-row}
+use Rattle.meaning.proofs.Shorter.{fall_row}
 use Rattle.meaning.proofs.Unique.{one-five, one-count}
-use Rattle.book.specs.Limits.{mostRules}
-use Rattle.widened.specs.OneWord.{mostOfOne, OneWord, wide, Roomy, TablesKept, SameRow, RowsKept}
+use Rattle.book.specs.Limits.{most_rules}
+use Rattle.widened.specs.OneWord.{most_of_one, OneWord, wide, Roomy, TablesKept, SameRow, RowsKept}
 use Rattle.widen.proofs.Laws.{judged}
 use Rattle.widened.proofs.Laws.{zero-widened, rules-widened}
 
 -- ---- the tables
 
-pub tables-kept : TablesKept
-tables-kept r b n live out x done =
+pub tables_kept : TablesKept
+tables_kept r b n live out x done =
     let (rl, ro) = (judged (length b.live) (length b.out) live out).done.0 done in
     record {
       texts = x.texts;
       count = x.count;
       rows = x.rows;
       numbers = record {
-        fall-is = x.numbers.fall-is;
-        held-is = x.numbers.held-is;
-        live-is = λ i h. rules-widened live b.live rl i ∙ x.numbers.live-is i h;
-        out-is = λ i h. rules-widened out b.out ro i ∙ x.numbers.out-is i h;
+        fall_is = x.numbers.fall_is;
+        held_is = x.numbers.held_is;
+        live_is = λ i h. rules-widened live b.live rl i ∙ x.numbers.live_is i h;
+        out_is = λ i h. rules-widened out b.out ro i ∙ x.numbers.out_is i h;
       };
       gotos = x.gotos;
       rest = record {
-        goto-rest = x.rest.goto-rest;
+        goto_rest = x.rest.goto_rest;
         fall-rest = x.rest.fall-rest;
         held-rest = x.rest.held-rest;
         live-rest = zero-widened live n b.live x.rest.live-rest;
@@ -51,7 +51,7 @@ tables-kept r b n live out x done =
 pub tables-equal : {r : Rules} {b b' : Five} {n n' : ℕ} (live out : ℕ) → OneWord r b n → Roomy b live out → Tables r b' n' → Alike (wide b live out) b'
     → (n ≡ n') × (wide b live out ≡ b')
 tables-equal {r} {b} {n = n} {n'} live out x done y a =
-    let t = tables-kept r b n live out x done in
+    let t = tables_kept r b n live out x done in
     let e : n ≡ n' = one-count t y in
     (e, one-five _ _ _ _ (subst (Tables r (wide b live out)) e t) y a)
 
@@ -68,9 +68,9 @@ unfolding members
 members-more m n s h = sym (those-append (has s) 0 m n ∙ rw (those-none (has s) (0 + m) n (λ k l. has_above m k h (omega arith))) (append-nil (those (has s) 0 m)))
 
 -- the rules that end are below 64 where all are
-out-small : (r : Rules) (t : List ℕ) → count r ≤ mostOfOne → out r t < 2 ^ mostOfOne
+out-small : (r : Rules) (t : List ℕ) → count r ≤ most_of_one → out r t < 2 ^ most_of_one
 unfolding out
-out-small r t few = let m = pow_mono {j = mostOfOne} few in omega (arith, setWhere-lt (count r) (ends r t))
+out-small r t few = let m = pow_mono {j = most_of_one} few in omega (arith, set_where-lt (count r) (ends r t))
 
 -- ---- the rows
 
@@ -78,30 +78,30 @@ module _ {r : Rules} {b b' : Five} {n n' : ℕ} (x : OneWord r b n) (y : Tables 
   numbers' : Numbers r x.texts (columns b')
   numbers' = rw (unique (congruence r) x.rows y.rows) y.numbers
 
-  gotos' : Gotos r x.texts (gotoAt b'.goto)
+  gotos' : Gotos r x.texts (goto_at b'.goto)
   gotos' = rw (unique (congruence r) x.rows y.rows) y.gotos
 
   one_entry : (goes : Bool) {t : List ℕ} {c e e' : ℕ} → Entry r x.texts t c e goes → Entry r x.texts t c e' goes → e ≡ e'
-  one_entry true p q = one-row (congruence r) x.rows.ascending (p.on refl) (q.on refl)
+  one_entry true p q = one_row_lem (congruence r) x.rows.ascending (p.on refl) (q.on refl)
   one_entry false p q = p.back refl ∙ sym (q.back refl)
 
   row_kept : (i : ℕ) → i < length x.texts → SameRow b b' i
   row_kept i k = record {
-    goto-same = λ c byte. one_entry (goesOnAt r x.texts i c) (x.gotos.entry i c k byte) (gotos'.entry i c k byte);
-    fall-same = one-row (congruence r) x.rows.ascending (fall-row (x.numbers.fall-is i k)) (fall-row (numbers'.fall-is i k));
-    held_same = x.numbers.held-is i k ∙ sym (numbers'.held-is i k);
-    live_same = x.numbers.live-is i k ∙ sym (numbers'.live-is i k);
-    out-same = x.numbers.out-is i k ∙ sym (numbers'.out-is i k);
+    goto_same = λ c byte. one_entry (goes_on_at r x.texts i c) (x.gotos.entry i c k byte) (gotos'.entry i c k byte);
+    fall-same = one_row_lem (congruence r) x.rows.ascending (fall_row (x.numbers.fall_is i k)) (fall_row (numbers'.fall_is i k));
+    held_same = x.numbers.held_is i k ∙ sym (numbers'.held_is i k);
+    live_same = x.numbers.live_is i k ∙ sym (numbers'.live_is i k);
+    out-same = x.numbers.out_is i k ∙ sym (numbers'.out_is i k);
   }
 
-  reports-kept : count r ≤ mostOfOne → (i : ℕ) → i < length x.texts → members mostOfOne (get_or b.out i 0) ≡ members mostRules (rulesAt b'.out i)
-  reports-kept few i k =
-      members-more mostOfOne (mostRules - mostOfOne) (get_or b.out i 0) (rw (x.numbers.out-is i k) (out-small r _ few))
-      ∙ ap (members mostRules) (row_kept i k).out-same
+  reports_kept : count r ≤ most_of_one → (i : ℕ) → i < length x.texts → members most_of_one (get_or b.out i 0) ≡ members most_rules (rules_at b'.out i)
+  reports_kept few i k =
+      members-more most_of_one (most_rules - most_of_one) (get_or b.out i 0) (rw (x.numbers.out_is i k) (out-small r _ few))
+      ∙ ap (members most_rules) (row_kept i k).out-same
 
-pub rows-kept : RowsKept
-rows-kept r b b' n n' x y = record {
+pub rows_kept : RowsKept
+rows_kept r b b' n n' x y = record {
   count_same = sym x.count ∙ ap length (unique (congruence r) x.rows y.rows) ∙ y.count;
   row_same = λ i h. row_kept x y i (omega (arith, x.count));
-  reports-same = λ few i h. reports-kept x y few i (omega (arith, x.count));
+  reports-same = λ few i h. reports_kept x y few i (omega (arith, x.count));
 }

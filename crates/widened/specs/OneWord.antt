@@ -3,27 +3,27 @@
 use Rattle.std.specs.Prelude.{◌≡◌, List, ℕ, ◌*◌, ◌/◌, ◌≤◌, ◌<◌, length, get_or}
 use Rattle.rows.specs.Rows.{IsRows}
 use Rattle.sets.specs.Sets.{members}
-use Rattle.sets.specs.Table.{rowWords, rulesAt}
+use Rattle.sets.specs.Table.{row_words, rules_at}
 use Rattle.meaning.specs.Rules.{Rules, count}
 use Rattle.meaning.specs.Standing.{Same}
-use Rattle.meaning.specs.Tables.{Columns, Numbers, Gotos, Five, gotoAt, ZeroFrom, Tables}
-use Rattle.book.specs.Limits.{mostRules}
-use Rattle.widen.specs.Widen.{widened, widenOf}
+use Rattle.meaning.specs.Tables.{Columns, Numbers, Gotos, Five, goto_at, ZeroFrom, Tables}
+use Rattle.book.specs.Limits.{most_rules}
+use Rattle.widen.specs.Widen.{widened, widen_of}
 use Rattle.widen.specs.declared.Widened.TheVariants.{Done}
 
 -- ---- the old layout
 
 -- the most rules of a book while a set was one word
-abbrev pub mostOfOne : ℕ
-mostOfOne = 64
+abbrev pub most_of_one : ℕ
+most_of_one = 64
 
 -- the tables but goto: every one had a number a row
-abbrev pub columnsOfOne : Five → Columns
-columnsOfOne b = record { fall = λ i. get_or b.fall i 0; held = λ i. get_or b.held i 0; live = λ i. get_or b.live i 0; out = λ i. get_or b.out i 0 }
+abbrev pub columns_of_one : Five → Columns
+columns_of_one b = record { fall = λ i. get_or b.fall i 0; held = λ i. get_or b.held i 0; live = λ i. get_or b.live i 0; out = λ i. get_or b.out i 0 }
 
 -- every entry past the last of n rows is 0
 pub record RestOfOne (n : ℕ) (b : Five) : Type 0 where
-  pub goto-rest : ZeroFrom (256 * n) b.goto
+  pub goto_rest : ZeroFrom (256 * n) b.goto
   pub fall-rest : ZeroFrom n b.fall
   pub held-rest : ZeroFrom n b.held
   pub live-rest : ZeroFrom n b.live
@@ -34,8 +34,8 @@ pub record OneWord (r : Rules) (b : Five) (n : ℕ) : Type 0 where
   pub texts : List (List ℕ)
   pub count : length texts ≡ n
   pub rows : IsRows (Same r) texts
-  pub numbers : Numbers r texts (columnsOfOne b)
-  pub gotos : Gotos r texts (gotoAt b.goto)
+  pub numbers : Numbers r texts (columns_of_one b)
+  pub gotos : Gotos r texts (goto_at b.goto)
   pub rest : RestOfOne n b
 
 -- ---- widened
@@ -46,16 +46,16 @@ wide b live out = record { goto = b.goto; fall = b.fall; held = b.held; live = w
 
 -- these have room, so that it is done
 abbrev pub Roomy : Five → ℕ → ℕ → Type 0
-Roomy b live out = widenOf (length b.live) (length b.out) live out ≡ Done
+Roomy b live out = widen_of (length b.live) (length b.out) live out ≡ Done
 
 -- a buffer of n places, widened: its rows' sets are the old numbers, and 0 comes after them
 pub record WideSets (n : ℕ) (old : List ℕ) : Type 0 where
   pub long : length (widened n old) ≡ n
-  pub sets : (i : ℕ) → rulesAt (widened n old) i ≡ get_or old i 0
-  pub later : (i : ℕ) → rowWords * length old ≤ i → get_or (widened n old) i 0 ≡ 0
+  pub sets : (i : ℕ) → rules_at (widened n old) i ≡ get_or old i 0
+  pub later : (i : ℕ) → row_words * length old ≤ i → get_or (widened n old) i 0 ≡ 0
 
 abbrev pub SetsKept : Type 0
-SetsKept = (n : ℕ) (old : List ℕ) → length old ≤ n / rowWords → WideSets n old
+SetsKept = (n : ℕ) (old : List ℕ) → length old ≤ n / row_words → WideSets n old
 
 -- old tables, widened, are the tables of the same rules
 abbrev pub TablesKept : Type 0
@@ -65,17 +65,17 @@ TablesKept = (r : Rules) (b : Five) (n live out : ℕ) → OneWord r b n → Roo
 
 -- row i is the same in old tables and in new ones
 pub record SameRow (b b' : Five) (i : ℕ) : Type 0 where
-  pub goto-same : (c : ℕ) → c < 256 → gotoAt b.goto i c ≡ gotoAt b'.goto i c
+  pub goto_same : (c : ℕ) → c < 256 → goto_at b.goto i c ≡ goto_at b'.goto i c
   pub fall-same : get_or b.fall i 0 ≡ get_or b'.fall i 0
   pub held_same : get_or b.held i 0 ≡ get_or b'.held i 0
-  pub live_same : get_or b.live i 0 ≡ rulesAt b'.live i
-  pub out-same : get_or b.out i 0 ≡ rulesAt b'.out i
+  pub live_same : get_or b.live i 0 ≡ rules_at b'.live i
+  pub out-same : get_or b.out i 0 ≡ rules_at b'.out i
 
 -- so are the number of rows, each row, and the rules reported at it
 pub record Kept (r : Rules) (b : Five) (n : ℕ) (b' : Five) (n' : ℕ) : Type 0 where
   pub count_same : n ≡ n'
   pub row_same : (i : ℕ) → i < n → SameRow b b' i
-  pub reports-same : count r ≤ mostOfOne → (i : ℕ) → i < n → members mostOfOne (get_or b.out i 0) ≡ members mostRules (rulesAt b'.out i)
+  pub reports-same : count r ≤ most_of_one → (i : ℕ) → i < n → members most_of_one (get_or b.out i 0) ≡ members most_rules (rules_at b'.out i)
 
 -- any old tables and any new tables of the same rules
 abbrev pub RowsKept : Type 0

@@ -1,9 +1,10 @@
 // Sets of more numbers as several words, lowest first; a row of a table of sets has four.
+#![tactic(auto)]
+
 ghost use Rattle.std.specs.Prelude.{◌≡◌, ◌&&◌, ◌≤◌, eqb, length, get_or, replicate};
 ghost use Rattle.std.specs.Int.Bits.{bit_or};
-ghost use Rattle.moments.specs.Moments.{was, left};
-ghost use Rattle.sets.specs.Sets.{setOf, united};
-ghost use Rattle.sets.specs.Table.{rowWords};
+ghost use Rattle.sets.specs.Sets.{set_of, united};
+ghost use Rattle.sets.specs.Table.{row_words};
 
 // How many words a row of a table of sets has.
 pub const WORDS: usize = 4;
@@ -13,15 +14,15 @@ pub type Set = [u64; WORDS];
 
 // The set with nothing in it.
 pub fn none() -> Set
-    ensures value { result ≡ replicate rowWords 0 }
-    ensures value_2 { WORDS ≡ rowWords }
+    ensures all_empty { result ≡ replicate row_words 0 }
+    ensures words { WORDS ≡ row_words }
 {
     [0; WORDS]
 }
 
 // The word at i, or 0 where there is none.
 pub fn word(words: &[u64], i: usize) -> u64
-    ensures { result ≡ get_or (was words) i 0 }
+    ensures { result ≡ get_or words.now i 0 }
 {
     if i < words.len() {
         return words[i];
@@ -31,7 +32,7 @@ pub fn word(words: &[u64], i: usize) -> u64
 
 // Whether nothing is in the set.
 pub fn is_empty(words: &[u64]) -> bool
-    ensures { result ≡ eqb (setOf (was words)) 0 }
+    ensures { result ≡ eqb (set_of words.now) 0 }
 {
     let mut i = 0;
     while i < words.len() {
@@ -45,7 +46,7 @@ pub fn is_empty(words: &[u64]) -> bool
 
 // Whether the two are one set, in as many words.
 pub fn same(a: &[u64], b: &[u64]) -> bool
-    ensures { result ≡ (eqb (length (was a)) (length (was b)) && eqb (setOf (was a)) (setOf (was b))) }
+    ensures { result ≡ (eqb (length a.now) (length b.now) && eqb (set_of a.now) (set_of b.now)) }
 {
     if a.len() != b.len() {
         return false;
@@ -62,8 +63,8 @@ pub fn same(a: &[u64], b: &[u64]) -> bool
 
 // What is in the second set joins the first; what is past the words of the first is left out.
 pub fn unite(words: &mut [u64], more: &[u64])
-    ensures words_value { left words ≡ united (was words) (was more) }
-    ensures words_value_2 { length (was more) ≤ length (was words) → setOf (left words) ≡ bit_or (setOf (was words)) (setOf (was more)) }
+    ensures each { words.new ≡ united words.old more.now }
+    ensures as_sets { length more.now ≤ length words.old → set_of words.new ≡ bit_or (set_of words.old) (set_of more.now) }
 {
     let mut i = 0;
     while i < words.len() {

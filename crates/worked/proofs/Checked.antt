@@ -12,12 +12,12 @@ use lib.Ieee.Fits.{and_l, and_r}
 use lib.ListN.{length, get_or, get_or-eq_default}
 use Rattle.rows.specs.Rows.{ByteText, Before, none, earlier, last, IsRow, IsRows}
 use Rattle.rows.proofs.Compare.{less, equal, more, order}
-use Rattle.rows.proofs.Order.{before-irrefl, before-trans}
+use Rattle.rows.proofs.Order.{before_irrefl, before_trans}
 use Rattle.meaning.specs.Rules.{Rules}
 use Rattle.meaning.specs.Standing.{level, Same, held, live, out}
 use Rattle.meaning.specs.Tables.{IsFall}
 use Rattle.worked.specs.Books.{Written, Right}
-use Rattle.meaning.proofs.Levels.{level-over, same_refl, same-sym, same-trans, same-cons}
+use Rattle.meaning.proofs.Levels.{level-over, same_refl, same_sym, same_trans, same-cons}
 use Rattle.meaning.proofs.Tested.{below, below_at, alike, alike_same, same_alike}
 
 or_cases : (a b : Bool) → T (a || b) → T a ⊎ T b
@@ -26,46 +26,46 @@ or_cases false b x = inr x
 
 -- ---- texts in order
 
-unfoldable pub sameText : List ℕ → List ℕ → Bool
-sameText [] [] = true
-sameText [] (d ∷ u) = false
-sameText (c ∷ t) [] = false
-sameText (c ∷ t) (d ∷ u) = eqb c d && sameText t u
+unfoldable pub same_text : List ℕ → List ℕ → Bool
+same_text [] [] = true
+same_text [] (d ∷ u) = false
+same_text (c ∷ t) [] = false
+same_text (c ∷ t) (d ∷ u) = eqb c d && same_text t u
 
-same_text : (t u : List ℕ) → T (sameText t u) → t ≡ u
-unfolding sameText
-same_text [] [] x = refl
-same_text [] (d ∷ u) x = absurd x
-same_text (c ∷ t) [] x = absurd x
-same_text (c ∷ t) (d ∷ u) x =
-    ap₂ (λ (h : ℕ) (l : List ℕ). h ∷ l) (eqb→eq c d (and_l (eqb c d) (sameText t u) x)) (same_text t u (and_r (eqb c d) (sameText t u) x))
+same_text_lem : (t u : List ℕ) → T (same_text t u) → t ≡ u
+unfolding same_text
+same_text_lem [] [] x = refl
+same_text_lem [] (d ∷ u) x = absurd x
+same_text_lem (c ∷ t) [] x = absurd x
+same_text_lem (c ∷ t) (d ∷ u) x =
+    ap₂ (λ (h : ℕ) (l : List ℕ). h ∷ l) (eqb→eq c d (and_l (eqb c d) (same_text t u) x)) (same_text_lem t u (and_r (eqb c d) (same_text t u) x))
 
-unfoldable pub isBefore : List ℕ → List ℕ → Bool
-isBefore [] [] = false
-isBefore [] (d ∷ u) = true
-isBefore (c ∷ t) [] = false
-isBefore (c ∷ t) (d ∷ u) = isBefore t u || (sameText t u && ltb c d)
+unfoldable pub is_before : List ℕ → List ℕ → Bool
+is_before [] [] = false
+is_before [] (d ∷ u) = true
+is_before (c ∷ t) [] = false
+is_before (c ∷ t) (d ∷ u) = is_before t u || (same_text t u && ltb c d)
 
-is-before : (t u : List ℕ) → T (isBefore t u) → Before t u
-unfolding isBefore
-is-before [] [] x = absurd x
-is-before [] (d ∷ u) x = none
-is-before (c ∷ t) [] x = absurd x
-is-before (c ∷ t) (d ∷ u) x =
-    elim (or_cases (isBefore t u) (sameText t u && ltb c d) x) [
-      | inl y ↦ earlier (is-before t u y)
+is_before_lem : (t u : List ℕ) → T (is_before t u) → Before t u
+unfolding is_before
+is_before_lem [] [] x = absurd x
+is_before_lem [] (d ∷ u) x = none
+is_before_lem (c ∷ t) [] x = absurd x
+is_before_lem (c ∷ t) (d ∷ u) x =
+    elim (or_cases (is_before t u) (same_text t u && ltb c d) x) [
+      | inl y ↦ earlier (is_before_lem t u y)
       | inr y ↦
-          let e = same_text t u (and_l (sameText t u) (ltb c d) y) in
-          rw (← e) (last (ltb→lt c d (and_r (sameText t u) (ltb c d) y)))
+          let e = same_text_lem t u (and_l (same_text t u) (ltb c d) y) in
+          rw (← e) (last (ltb→lt c d (and_r (same_text t u) (ltb c d) y)))
     ]
 
 abbrev NotAfter : List ℕ → List ℕ → Type 0
 NotAfter t u = (t ≡ u) ⊎ Before t u
 
-after-cons : (c : ℕ) {t u v : List ℕ} → NotAfter t u → NotAfter v (c ∷ t) → NotAfter v (c ∷ u)
-after-cons c {t} {u} {v} (inl p) q = rw p at q
-after-cons c {t} {u} {v} (inr p) (inl q) = inr (rw q (earlier p))
-after-cons c {t} {u} {v} (inr p) (inr q) = inr (before-trans q (earlier p))
+after_cons : (c : ℕ) {t u v : List ℕ} → NotAfter t u → NotAfter v (c ∷ t) → NotAfter v (c ∷ u)
+after_cons c {t} {u} {v} (inl p) q = rw p at q
+after_cons c {t} {u} {v} (inr p) (inl q) = inr (rw q (earlier p))
+after_cons c {t} {u} {v} (inr p) (inr q) = inr (before_trans q (earlier p))
 
 -- ---- the test
 
@@ -100,32 +100,32 @@ module _ (w : Written) where
   abbrev at : ℕ → List ℕ
   at i = get_or w.rows i []
 
-  abbrev isText : List ℕ → Bool
-  isText t = ltb (length t) m && below (length t) (λ i. ltb (get_or t i 0) 256)
+  abbrev is_text : List ℕ → Bool
+  is_text t = ltb (length t) m && below (length t) (λ i. ltb (get_or t i 0) 256)
 
   abbrev apart : List ℕ → List ℕ → Bool
-  apart t u = isBefore t u && not (alike r m t u)
+  apart t u = is_before t u && not (alike r m t u)
 
   -- the row of u is that of t, and u does not come after t
   abbrev reaches : List ℕ → List ℕ → Bool
-  reaches t u = alike r m t u && (sameText u t || isBefore u t)
+  reaches t u = alike r m t u && (same_text u t || is_before u t)
 
-  abbrev isClosed : ℕ → ℕ → Bool
-  isClosed i c = any_of (reaches (c ∷ at i)) ts
+  abbrev is_closed : ℕ → ℕ → Bool
+  is_closed i c = any_of (reaches (c ∷ at i)) ts
 
   abbrev lower : List ℕ → ℕ → ℕ
   lower t j = cond (eqb (suc j) (held r t)) 0 (level r t (suc j))
 
-  abbrev isFall : List ℕ → ℕ → Bool
-  isFall t v = ltb v (length ts) && below m (λ j. eqb (level r (at v) (suc j)) (lower t j))
+  abbrev is_fall : List ℕ → ℕ → Bool
+  is_fall t v = ltb v (length ts) && below m (λ j. eqb (level r (at v) (suc j)) (lower t j))
 
   pub record Passes : Type 0 where
     pub root : at 0 ≡ []
     pub some : T (ltb 0 (length ts))
-    pub texts : T (below (length ts) (λ i. isText (at i)))
+    pub texts : T (below (length ts) (λ i. is_text (at i)))
     pub differ : T (below (length ts) (λ j. below j (λ i. apart (at i) (at j))))
-    pub closed : T (below (length ts) (λ i. below 256 (isClosed i)))
-    pub falls : T (below (length ts) (λ i. isFall (at i) (get_or w.fall i 0)))
+    pub closed : T (below (length ts) (λ i. below 256 (is_closed i)))
+    pub falls : T (below (length ts) (λ i. is_fall (at i) (get_or w.fall i 0)))
     pub helds : T (below (length ts) (λ i. eqb (get_or w.held i 0) (held r (at i))))
     pub lives : T (below (length ts) (λ i. eqb (get_or w.live i 0) (live r (at i))))
     pub outs : T (below (length ts) (λ i. eqb (get_or w.out i 0) (out r (at i))))
@@ -134,11 +134,11 @@ module _ (w : Written) where
     short : (i : ℕ) → i < length ts → length (at i) < m
     short i l =
         ltb→lt (length (at i)) m
-        (and_l (ltb (length (at i)) m) (below (length (at i)) (λ k. ltb (get_or (at i) k 0) 256)) (below_at (length ts) (λ i. isText (at i)) x.texts i l))
+        (and_l (ltb (length (at i)) m) (below (length (at i)) (λ k. ltb (get_or (at i) k 0) 256)) (below_at (length ts) (λ i. is_text (at i)) x.texts i l))
 
     bytes : (i : ℕ) → i < length ts → ByteText (at i)
     bytes i l k =
-        let each = and_r (ltb (length (at i)) m) (below (length (at i)) (λ k. ltb (get_or (at i) k 0) 256)) (below_at (length ts) (λ i. isText (at i)) x.texts i l) in
+        let each = and_r (ltb (length (at i)) m) (below (length (at i)) (λ k. ltb (get_or (at i) k 0) 256)) (below_at (length ts) (λ i. is_text (at i)) x.texts i l) in
         elim (dec_lt k (length (at i))) [
           | yes h ↦ ltb→lt (get_or (at i) k 0) 256 (below_at (length (at i)) (λ k. ltb (get_or (at i) k 0) 256) each k h)
           | no g ↦ rw (get_or-eq_default (at i) 0 {n = k} (omega arith)) (omega arith)
@@ -148,18 +148,18 @@ module _ (w : Written) where
     differs i j l h =
         let y = below_at j (λ i. apart (at i) (at j)) (below_at (length ts) (λ j. below j (λ i. apart (at i) (at j))) x.differ j h) i l in
         let same = alike r m (at i) (at j) in
-        (is-before (at i) (at j) (and_l (isBefore (at i) (at j)) (not same) y), λ s. T_not same (and_r (isBefore (at i) (at j)) (not same) y) (same_alike m s))
+        (is_before_lem (at i) (at j) (and_l (is_before (at i) (at j)) (not same) y), λ s. T_not same (and_r (is_before (at i) (at j)) (not same) y) (same_alike m s))
 
     leads : (i c : ℕ) → i < length ts → c < 256 → (e : ℕ) × IsRow (Same r) ts (c ∷ at i) e × NotAfter (at e) (c ∷ at i)
     leads i c l h =
         let t = c ∷ at i in
-        let y = below_at 256 (isClosed i) (below_at (length ts) (λ i. below 256 (isClosed i)) x.closed i l) c h in
+        let y = below_at 256 (is_closed i) (below_at (length ts) (λ i. below 256 (is_closed i)) x.closed i l) c h in
         let (e, k, z) = any_at (reaches t) ts y in
         let same = alike r m t (at e) in
-        let late = sameText (at e) t || isBefore (at e) t in (
+        let late = same_text (at e) t || is_before (at e) t in (
           e,
           record { below = k; same = alike_same (short i l) (omega (arith, short e k)) (and_l same late z) },
-          elim (or_cases (sameText (at e) t) (isBefore (at e) t) (and_r same late z)) [ inl q ↦ inl (same_text (at e) t q) | inr q ↦ inr (is-before (at e) t q) ],
+          elim (or_cases (same_text (at e) t) (is_before (at e) t) (and_r same late z)) [ inl q ↦ inl (same_text_lem (at e) t q) | inr q ↦ inr (is_before_lem (at e) t q) ],
         )
 
     reach : (u : List ℕ) → ByteText u → (e : ℕ) × IsRow (Same r) ts u e × NotAfter (at e) u
@@ -167,25 +167,25 @@ module _ (w : Written) where
     reach (c ∷ u) b =
         let (i, p, o) = reach u (λ k. b (suc k)) in
         let (e, q, o') = leads i c p.below (b 0) in
-        (e, record { below = q.below; same = same-trans (same-cons c p.same) q.same }, after-cons c o o')
+        (e, record { below = q.below; same = same_trans (same-cons c p.same) q.same }, after_cons c o o')
 
     one : (i j : ℕ) → i < length ts → j < length ts → Same r (at i) (at j) → i ≡ j
     one i j l h s =
         elim (order i j) [
           | less d ↦ absurd ((differs i j d h).1 s)
           | equal d ↦ d
-          | more d ↦ absurd ((differs j i d l).1 (same-sym s))
+          | more d ↦ absurd ((differs j i d l).1 (same_sym s))
         ]
 
-    are-rows : IsRows (Same r) ts
-    are-rows = record {
+    are_rows : IsRows (Same r) ts
+    are_rows = record {
       ascending = record {
         bytes = bytes;
         ordered = λ i j l h. (differs i j l h).0;
         least = λ i l {u} b s y.
             let (e, p, o) = reach u b in
-            let z : e ≡ i = one e i p.below l (same-trans (same-sym p.same) s) in
-            elim (rw z at o) [ inl q ↦ before-irrefl (rw q at y) | inr q ↦ before-irrefl (before-trans q y) ];
+            let z : e ≡ i = one e i p.below l (same_trans (same_sym p.same) s) in
+            elim (rw z at o) [ inl q ↦ before_irrefl (rw q at y) | inr q ↦ before_irrefl (before_trans q y) ];
       };
       complete = λ u b. let (e, p, o) = reach u b in (e, p);
     }
@@ -193,7 +193,7 @@ module _ (w : Written) where
     fall : (i : ℕ) → i < length ts → IsFall r ts (at i) (get_or w.fall i 0)
     fall i l =
         let v = get_or w.fall i 0 in
-        let y = below_at (length ts) (λ i. isFall (at i) (get_or w.fall i 0)) x.falls i l in
+        let y = below_at (length ts) (λ i. is_fall (at i) (get_or w.fall i 0)) x.falls i l in
         let levels = below m (λ j. eqb (level r (at v) (suc j)) (lower (at i) j)) in
         let b = ltb→lt v (length ts) (and_l (ltb v (length ts)) levels y) in
         record { below = b; shorter = record { at = λ j. go j v b (and_r (ltb v (length ts)) levels y) } }
@@ -215,7 +215,7 @@ module _ (w : Written) where
 
     pub right : Right w
     right = record {
-      rows = are-rows;
+      rows = are_rows;
       numbers =
-          record { fall-is = fall; held-is = number w.held (held r) x.helds; live-is = number w.live (live r) x.lives; out-is = number w.out (out r) x.outs };
+          record { fall_is = fall; held_is = number w.held (held r) x.helds; live_is = number w.live (live r) x.lives; out_is = number w.out (out r) x.outs };
     }

@@ -4,7 +4,7 @@ use Rattle.std.specs.Prelude.{◌≡◌, Bool, ◌&&◌, List, [], ◌∷◌, re
 use Rattle.rows.specs.Rows.{IsRows}
 use Rattle.meaning.specs.Rules.{Rules}
 use Rattle.meaning.specs.Standing.{Same, held}
-use Rattle.meaning.specs.Falls.{fallsIn}
+use Rattle.meaning.specs.Falls.{falls_in}
 use Rattle.meaning.specs.Tables.{Numbers}
 
 -- a book, the least texts of its rows, the latest byte first, and what the tables hold for each row
@@ -23,13 +23,13 @@ pub record Right (w : Written) : Type 0 where
       (record { fall = λ i. get_or w.fall i 0; held = λ i. get_or w.held i 0; live = λ i. get_or w.live i 0; out = λ i. get_or w.out i 0 })
 
 -- picture 0 is a to z
-abbrev pub aToZ : ℕ → ℕ → Bool
-aToZ p c = eqb p 0 && leb 97 c && leb c 122
+abbrev pub a_to_z : ℕ → ℕ → Bool
+a_to_z p c = eqb p 0 && leb 97 c && leb c 122
 
 -- X: rule 0 is `a`, picture, `b`, picture. Its rows: the empty text, a, aa, ab, aab, abb, aaba, aabb, aabc
 abbrev pub X : Written
 X = record {
-  book = record { rules = (97 ∷ 256 ∷ 98 ∷ 256 ∷ []) ∷ []; member = aToZ };
+  book = record { rules = (97 ∷ 256 ∷ 98 ∷ 256 ∷ []) ∷ []; member = a_to_z };
   rows =
       [] ∷ (97 ∷ []) ∷ (97 ∷ 97 ∷ []) ∷ (98 ∷ 97 ∷ []) ∷ (98 ∷ 97 ∷ 97 ∷ []) ∷ (98 ∷ 98 ∷ 97 ∷ [])
       ∷ (97 ∷ 98 ∷ 97 ∷ 97 ∷ []) ∷ (98 ∷ 98 ∷ 97 ∷ 97 ∷ []) ∷ (99 ∷ 98 ∷ 97 ∷ 97 ∷ []) ∷ [];
@@ -42,7 +42,7 @@ X = record {
 -- Y: rule 0 is picture, `1`; rule 1 is `a`, picture, `c`; rule 2 is `a`, `b`. Its rows: the empty text, a, b, a1, aa, ab, ac, aac, abc
 abbrev pub Y : Written
 Y = record {
-  book = record { rules = (256 ∷ 49 ∷ []) ∷ (97 ∷ 256 ∷ 99 ∷ []) ∷ (97 ∷ 98 ∷ []) ∷ []; member = aToZ };
+  book = record { rules = (256 ∷ 49 ∷ []) ∷ (97 ∷ 256 ∷ 99 ∷ []) ∷ (97 ∷ 98 ∷ []) ∷ []; member = a_to_z };
   rows =
       [] ∷ (97 ∷ []) ∷ (98 ∷ []) ∷ (49 ∷ 97 ∷ []) ∷ (97 ∷ 97 ∷ []) ∷ (98 ∷ 97 ∷ []) ∷ (99 ∷ 97 ∷ []) ∷ (99 ∷ 97 ∷ 97 ∷ [])
       ∷ (99 ∷ 98 ∷ 97 ∷ []) ∷ [];
@@ -55,7 +55,7 @@ Y = record {
 -- Z: rule 0 is `a`, `b`; rule 1 is `b`. Its rows: the empty text, a, b, ab
 abbrev pub Z : Written
 Z = record {
-  book = record { rules = (97 ∷ 98 ∷ []) ∷ (98 ∷ []) ∷ []; member = aToZ };
+  book = record { rules = (97 ∷ 98 ∷ []) ∷ (98 ∷ []) ∷ []; member = a_to_z };
   rows = [] ∷ (97 ∷ []) ∷ (98 ∷ []) ∷ (98 ∷ 97 ∷ []) ∷ [];
   fall = 0 ∷ 0 ∷ 0 ∷ 2 ∷ [];
   held = 0 ∷ 1 ∷ 1 ∷ 2 ∷ [];
@@ -65,7 +65,7 @@ Z = record {
 
 -- a text in reading order makes f fallbacks and leaves h held
 abbrev pub Reads : Written → List ℕ → ℕ → ℕ → Type 0
-Reads w text f h = (fallsIn w.book (reverse text) ≡ f) × (held w.book (reverse text) ≡ h)
+Reads w text f h = (falls_in w.book (reverse text) ≡ f) × (held w.book (reverse text) ≡ h)
 
 -- aabab and aabbx over X, aab1 over Y
 pub record Texts : Type 0 where

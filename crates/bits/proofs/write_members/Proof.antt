@@ -9,20 +9,20 @@ use native.Mathlib.Omega.{arith}
 use borrow.Author.Rules.{rules}
 use lib.ListN.{length, take, drop, length-set, length-map, take-append-drop}
 use lib.Seq.{sets, take-nil}
-use Rattle.sets.specs.Sets.{members, reports, pairsFrom, plusEach}
-use Rattle.sets.proofs.Members.{members-cons, members-empty, first-lt, reports-stored}
+use Rattle.sets.specs.Sets.{members, reports, pairs_from, plus_each}
+use Rattle.sets.proofs.Members.{members-cons, members-empty, first-lt, reports_stored}
 use Rattle.bits.proofs.write_members.Statement.{statement}
 use Rattle.bits.proofs.write_members.Tie as tie
 
 -- the members of s that have room in a buffer of n places, from `to` on
 abbrev due : ℕ → ℕ → ℕ → List ℕ
-due n to s = take (pairsFrom n to) (members 64 s)
+due n to s = take (pairs_from n to) (members 64 s)
 
 abbrev invariant-loop : tie.invariant-loop
 invariant-loop set base end out₀ at left₀ to₀ out left to =
     (left < 2 ^ 64) × (length out ≡ length out₀) × (to ≤ length out₀)
     × (to + 2 * length (due (length out₀) to left) ≡ at + 2 * length (due (length out₀) at set))
-    × (sets out to (reports end (plusEach base (due (length out₀) to left))) ≡ sets out₀ at (reports end (plusEach base (due (length out₀) at set))))
+    × (sets out to (reports end (plus_each base (due (length out₀) to left))) ≡ sets out₀ at (reports end (plus_each base (due (length out₀) at set))))
 
 abbrev decreases-loop : tie.decreases-loop
 decreases-loop set base end out₀ at left₀ to₀ out left to = length (members 64 left)
@@ -31,7 +31,7 @@ returns : tie.Need-returns invariant-loop decreases-loop
 unfolding reports
 returns c =
     let a = c.before.before.args in
-    let none : pairsFrom (length a.out.now) a.at ≡ 0 = omega arith in
+    let none : pairs_from (length a.out.now) a.at ≡ 0 = omega arith in
     rw none (sym (add-zero a.at), rw (append-nil (take a.at a.out.now)) (sym (take-append-drop a.at a.out.now)))
 
 loop-holds : tie.Need-loop-init invariant-loop decreases-loop
@@ -83,7 +83,7 @@ turn : (c : tie.After-rest invariant-loop decreases-loop) → let n = length c.b
 turn c =
     let n = length c.before.before.before.before.before.before.before.args.out.now in
     let to = c.before.before.before.before.loop.to in
-    let more : pairsFrom n to ≡ suc (pairsFrom n (to + 2)) = omega arith in
+    let more : pairs_from n to ≡ suc (pairs_from n (to + 2)) = omega arith in
     ap₂ take more (taken c)
 
 loop-again : tie.Need-loop-preserved invariant-loop decreases-loop
@@ -104,14 +104,14 @@ stop : (c : tie.At-loop invariant-loop decreases-loop) → let a = c.before.befo
     let n = length a.out.now in
     let to = c.loop.to in
     due n to c.loop.left ≡ [] → (to ≡ a.at + 2 * length (due n a.at a.set))
-    × (c.loop.out ≡ take a.at a.out.now ++ reports a.end (plusEach a.base (due n a.at a.set)) ++ drop to a.out.now)
+    × (c.loop.out ≡ take a.at a.out.now ++ reports a.end (plus_each a.base (due n a.at a.set)) ++ drop to a.out.now)
 unfolding reports
 stop c none =
     let a = c.before.before.before.args in
     let ks = due (length a.out.now) a.at a.set in
     let to : c.loop.to ≡ a.at + 2 * length ks = omega (arith, ap length none) in
-    let as_many : c.loop.to ≡ a.at + 2 * length (plusEach a.base ks) = rw length-map to in
-    (to, rw none at c.loop.invariant.4 ∙ reports-stored a.end (plusEach a.base ks) a.out.now a.at c.loop.to as_many c.loop.invariant.2)
+    let as_many : c.loop.to ≡ a.at + 2 * length (plus_each a.base ks) = rw length-map to in
+    (to, rw none at c.loop.invariant.4 ∙ reports_stored a.end (plus_each a.base ks) a.out.now a.at c.loop.to as_many c.loop.invariant.2)
 
 returns-2 : tie.Need-returns-2 invariant-loop decreases-loop
 returns-2 c = stop c.before (rw (c.loop-test.false, members-empty 64, take-nil))
@@ -122,7 +122,7 @@ same-length-2 c = search rules
 returns-3 : tie.Need-returns-3 invariant-loop decreases-loop
 returns-3 c =
     let n = length c.before.before.before.before.before.args.out.now in
-    let none : pairsFrom n c.before.before.loop.to ≡ 0 = omega arith in
+    let none : pairs_from n c.before.before.loop.to ≡ 0 = omega arith in
     stop c.before.before (rw none)
 
 pub write-members-spec : {M : Type 1} → statement M

@@ -4,13 +4,13 @@ use mathlib.Core.Path.{◌≡◌, sym, ◌∙◌}
 use borrow.Author.Rules.{rules}
 use lib.ListN.{length, get_or, drop}
 use lib.Seq.{sets}
-use Rattle.book.specs.Grown.{symbolsOf}
-use Rattle.book.proofs.Stores.{store-more, store-ends}
+use Rattle.book.specs.Grown.{symbols_of}
+use Rattle.book.proofs.Stores.{store_more, store_ends}
 use Rattle.book.proofs.store.Statement.{statement}
 use Rattle.book.proofs.store.Tie as tie
 
 abbrev invariant-loop : tie.invariant-loop
-invariant-loop room₀ from body j₀ i₀ room j i = (i ≤ length body) × (2 * j ≡ 2 * from + i) × (sets room₀ from (symbolsOf body) ≡ sets room j (symbolsOf (drop i body)))
+invariant-loop room₀ from body j₀ i₀ room j i = (i ≤ length body) × (2 * j ≡ 2 * from + i) × (sets room₀ from (symbols_of body) ≡ sets room j (symbols_of (drop i body)))
 
 abbrev decreases-loop : tie.decreases-loop
 decreases-loop room₀ from body j₀ i₀ room j i = length body - i
@@ -53,12 +53,12 @@ loop-again c =
     let l = c.before.before.before.before in
     let s = l.before.before.args.body.now in
     let e : c.symbol.result ≡ 256 * get_or s l.loop.i 0 + get_or s (l.loop.i + 1) 0 = c.symbol.ensures in
-    (search rules, search rules, rw e (l.loop.invariant.2 ∙ store-more l.loop.room l.loop.j s l.loop.i (search rules)))
+    (search rules, search rules, rw e (l.loop.invariant.2 ∙ store_more l.loop.room l.loop.j s l.loop.i (search rules)))
 
 returns : tie.Need-returns invariant-loop decreases-loop
 returns c =
     let l = c.before in
-    sym (l.loop.invariant.2 ∙ store-ends l.loop.room l.loop.j l.before.before.args.body.now l.loop.i (search rules))
+    sym (l.loop.invariant.2 ∙ store_ends l.loop.room l.loop.j l.before.before.args.body.now l.loop.i (search rules))
 
 pub store_spec : {M : Type 1} → statement M
 store_spec =

@@ -6,15 +6,15 @@ use native.Mathlib.Omega.{arith}
 use borrow.Author.Rules.{rules}
 use lib.Bits.{bit_or}
 use lib.Pow.{shl_exact}
-use Rattle.sets.proofs.Laws.{adding-with, adding-past}
-use Rattle.book.specs.Limits.{mostPictures}
+use Rattle.sets.proofs.Laws.{adding_with, adding-past}
+use Rattle.book.specs.Limits.{most_pictures}
 use Rattle.book.proofs.with.Statement.{statement}
 use Rattle.book.proofs.with.Tie as tie
 
 returns : tie.Need-returns
 returns c =
     let a = c.before.args in
-    sym (adding-past mostPictures a.set a.p c.before.ranges.set.fits c.if1.true)
+    sym (adding-past most_pictures a.set a.p c.before.ranges.set.fits c.if1.true)
 
 shl-result : tie.Need-overflow-shl-result
 shl-result c = search rules
@@ -23,8 +23,8 @@ returns-2 : tie.Need-returns-2
 returns-2 c =
     let a = c.before.args in
     let h = c.if1.false in
-    ap (bit_or a.set) (shl_exact 1 a.p mostPictures (omega arith) (omega arith) ∙ one-mul (2 ^ a.p))
-    ∙ sym (adding-with mostPictures a.set a.p c.before.ranges.set.fits (omega arith))
+    ap (bit_or a.set) (shl_exact 1 a.p most_pictures (omega arith) (omega arith) ∙ one-mul (2 ^ a.p))
+    ∙ sym (adding_with most_pictures a.set a.p c.before.ranges.set.fits (omega arith))
 
 pub with-spec : {M : Type 1} → statement M
 with-spec = tie.close (tie.spec returns shl-result returns-2)

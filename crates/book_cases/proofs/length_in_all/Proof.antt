@@ -1,7 +1,7 @@
 -- `book_cases::length_in_all` meets its contract: at most 255 for each length. Assumes nothing.
 use Prim.Native.Nat.{◌≤◌, ◌*◌, ◌-◌}
 use borrow.Author.Rules.{rules}
-use Rattle.book.specs.Limits.{mostRules}
+use Rattle.book.specs.Limits.{most_rules}
 use Rattle.book_cases.proofs.length_in_all.Statement.{statement}
 use Rattle.book_cases.proofs.length_in_all.Tie as tie
 
@@ -9,7 +9,7 @@ abbrev invariant-loop : tie.invariant-loop
 invariant-loop lengths sum₀ k₀ sum k = (sum ≤ 255 * k)
 
 abbrev decreases-loop : tie.decreases-loop
-decreases-loop lengths sum₀ k₀ sum k = mostRules - k
+decreases-loop lengths sum₀ k₀ sum k = most_rules - k
 
 loop-holds : tie.Need-loop-init invariant-loop decreases-loop
 loop-holds c = search rules

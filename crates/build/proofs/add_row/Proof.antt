@@ -1,7 +1,7 @@
 -- `add_row` meets its contract: each table has its number in row n. Assumes nothing.
 use native.Mathlib.Omega.{arith}
 use borrow.Author.Rules.{rules}
-use Rattle.build.proofs.Steps.{stored-number, stored-words}
+use Rattle.build.proofs.Steps.{stored_number, stored_words}
 use Rattle.build.proofs.add_row.Statement.{statement}
 use Rattle.build.proofs.add_row.Tie as tie
 
@@ -44,10 +44,10 @@ returns c =
     let room = a.requires.1 in
     let e = c.before.before.before.before.before.before.before.before.before.ends.ensures in
     record {
-      fall-put = stored-number _ _ _ (omega (arith, room.fall-room));
-      held-put = stored-number _ _ _ (omega (arith, room.held-room));
-      live-put = stored-words _ _ _ (omega (arith, room.live-room)) a.requires.0.1 c.before.before.before.before.before.before.before.store.ensures;
-      out-put = rw (← e.0) (stored-words _ _ _ (omega (arith, room.out-room)) e.1 c.before.before.store2.ensures);
+      fall-put = stored_number _ _ _ (omega (arith, room.fall-room));
+      held-put = stored_number _ _ _ (omega (arith, room.held-room));
+      live-put = stored_words _ _ _ (omega (arith, room.live-room)) a.requires.0.1 c.before.before.before.before.before.before.before.store.ensures;
+      out-put = rw (← e.0) (stored_words _ _ _ (omega (arith, room.out-room)) e.1 c.before.before.store2.ensures);
     }
 
 pub add-row-spec : {M : Type 1} → statement M

@@ -4,7 +4,7 @@ use mathlib.Core.List.{List}
 use Rattle.format.specs.Lawful.{Accepting}
 use Rattle.reader.proofs.Accepted.{accepting, refusing}
 use Rattle.build.specs.Course.{others}
-use Rattle.build.proofs.Promised.{accepted-within, accepted-builds, refused-leaves}
+use Rattle.build.proofs.Promised.{accepted-within, accepted-builds, refused_leaves}
 use native.Mathlib.Omega.{arith}
 use borrow.Author.Rules.{rules}
 use Rattle.build.proofs.build.Statement.{statement}
@@ -56,7 +56,7 @@ returns c =
 returns-2 : tie.Need-returns-2
 returns-2 c =
     let r = c.before.before.before in
-    refused-leaves (bytes-at r) _ (refusing (bytes-at r) r.read.ensures c.before.answer.given.1)
+    refused_leaves (bytes-at r) _ (refusing (bytes-at r) r.read.ensures c.before.answer.given.1)
 
 pub build-spec : {M : Type 1} → statement M
 build-spec =

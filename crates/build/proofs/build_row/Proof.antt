@@ -1,5 +1,5 @@
 -- `build_row` meets its contract: the part of row s is lent to the row filler and comes back filled. Assumes nothing.
-use Rattle.build.proofs.Sanity.{descends, leads-below, part-long, built}
+use Rattle.build.proofs.Sanity.{descends, leads_below, part-long, built}
 use borrow.Author.Rules.{rules}
 use Rattle.build.proofs.build_row.Statement.{statement}
 use Rattle.build.proofs.build_row.Tie as tie
@@ -39,7 +39,7 @@ fill-row-requires c κs =
     let a = v.before.before.before.before.before.before.before.before.before in
     let sane = a.requires.1.0 in
     let hs = a.requires.1.1.0 in
-    (a.requires.0, (record { room = sane.room; row = hs; short-held = sane.rows.short-held _ hs; rising = a.requires.1.1.1.0 }, (part-long sane _ hs, ((λ k h. leads-below sane (v.via-row.ensures k h)), a.requires.1.1.1.1))))
+    (a.requires.0, (record { room = sane.room; row = hs; short-held = sane.rows.short-held _ hs; rising = a.requires.1.1.1.0 }, (part-long sane _ hs, ((λ k h. leads_below sane (v.via-row.ensures k h)), a.requires.1.1.1.1))))
 
 same_length : tie.Need-same-length
 same_length c = search rules

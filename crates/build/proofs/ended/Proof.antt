@@ -4,16 +4,16 @@ use mathlib.Core.Path.{sym, subst}
 use native.Mathlib.Omega.{arith}
 use lib.ListN.{replicate}
 use borrow.Author.Rules.{rules}
-use Rattle.sets.specs.Sets.{setOf, wordWhere}
-use Rattle.sets.specs.Table.{rowWords}
-use Rattle.sets.proofs.Writing.{Writing, writing_start, writing-next}
-use Rattle.build.specs.Sets.{endsIn}
+use Rattle.sets.specs.Sets.{set_of, word_where}
+use Rattle.sets.specs.Table.{row_words}
+use Rattle.sets.proofs.Writing.{Writing, writing_start, writing_next}
+use Rattle.build.specs.Sets.{ends_in}
 use Rattle.build.proofs.Laws.{is_word, words-made}
 use Rattle.build.proofs.ended.Statement.{statement}
 use Rattle.build.proofs.ended.Tie as tie
 
 abbrev invariant-loop : tie.invariant-loop
-invariant-loop lengths rules held set some₀ i₀ some i = (i ≤ rowWords) × Writing (wordWhere rules (endsIn lengths held (setOf set))) (replicate rowWords 0) 0 i some
+invariant-loop lengths rules held set some₀ i₀ some i = (i ≤ row_words) × Writing (word_where rules (ends_in lengths held (set_of set))) (replicate row_words 0) 0 i some
 
 abbrev decreases-loop : tie.decreases-loop
 decreases-loop lengths rules held set some₀ i₀ some i = rules - 64 * i
@@ -55,7 +55,7 @@ loop-again c =
     let ws = a.args.set.now in
     let i = l.loop.i in
     let few = a.requires.0.few in
-    (omega arith, writing-next (omega arith) (omega arith) (c.ended-word.ensures (setOf ws) (is_word ws (λ j. (c.before.shared-slice-known2.given j).fits) i)) l.loop.invariant.1)
+    (omega arith, writing_next (omega arith) (omega arith) (c.ended-word.ensures (set_of ws) (is_word ws (λ j. (c.before.shared-slice-known2.given j).fits) i)) l.loop.invariant.1)
 
 returns : tie.Need-returns invariant-loop decreases-loop
 returns c =

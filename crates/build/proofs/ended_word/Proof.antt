@@ -7,16 +7,16 @@ use native.Mathlib.Omega.{arith}
 use borrow.Author.Rules.{rules}
 use lib.ListN.{get_or}
 use borrow.Author.Tests.{eq-eqb, ne_eqb}
-use Rattle.sets.specs.Sets.{setWhere}
-use Rattle.book.specs.Limits.{mostSymbols}
-use Rattle.build.specs.Sets.{IsWord, endsIn}
-use Rattle.build.proofs.Laws.{set-with, set_same}
+use Rattle.sets.specs.Sets.{set_where}
+use Rattle.book.specs.Limits.{most_symbols}
+use Rattle.build.specs.Sets.{IsWord, ends_in}
+use Rattle.build.proofs.Laws.{set_with, set_same}
 use Rattle.build.proofs.ended_word.Statement.{statement}
 use Rattle.build.proofs.ended_word.Tie as tie
 
 abbrev invariant-loop : tie.invariant-loop
 invariant-loop lengths rules held i set base many some₀ bit₀ some bit =
-    (bit ≤ many) × ((s : ℕ) → IsWord s i set → some ≡ setWhere bit (λ j. endsIn lengths held s (64 * i + j)))
+    (bit ≤ many) × ((s : ℕ) → IsWord s i set → some ≡ set_where bit (λ j. ends_in lengths held s (64 * i + j)))
 
 abbrev decreases-loop : tie.decreases-loop
 decreases-loop lengths rules held i set base many some₀ bit₀ some bit = many - bit
@@ -28,7 +28,7 @@ start l = l.before.before
 many_is : (l : tie.At-loop invariant-loop decreases-loop) → l.before.least.result ≡ min 64 ((start l).args.rules - 64 * (start l).args.i)
 many_is l = l.before.least.ensures
 
-short : (c : tie.In-loop invariant-loop decreases-loop) → get_or (start c.before).args.lengths.now (64 * (start c.before).args.i + c.before.loop.bit) 0 ≤ mostSymbols
+short : (c : tie.In-loop invariant-loop decreases-loop) → get_or (start c.before).args.lengths.now (64 * (start c.before).args.i + c.before.loop.bit) 0 ≤ most_symbols
 short c = (start c.before).pre.0.short (64 * (start c.before).args.i + c.before.loop.bit)
 
 mul-base : tie.Need-overflow-mul-base invariant-loop decreases-loop
@@ -41,7 +41,7 @@ least-requires : tie.Need-least-requires invariant-loop decreases-loop
 least-requires c κs = search rules
 
 loop-holds : tie.Need-loop-init invariant-loop decreases-loop
-unfolding setWhere
+unfolding set_where
 loop-holds c = (omega arith, λ s w. refl)
 
 add-if1 : tie.Need-overflow-add-if1 invariant-loop decreases-loop
@@ -77,12 +77,12 @@ loop-again c =
     let a = (start l).args in
     let go = c.before.before.loop-test.true in
     let b = l.loop.bit in
-    let p : ℕ → ℕ → Bool = λ s j. endsIn a.lengths.now a.held s (64 * a.i + j) in
-    let one : (s : ℕ) → IsWord s a.i a.set → l.loop.some ≡ setWhere b (p s) = l.loop.invariant.1 in
+    let p : ℕ → ℕ → Bool = λ s j. ends_in a.lengths.now a.held s (64 * a.i + j) in
+    let one : (s : ℕ) → IsWord s a.i a.set → l.loop.some ≡ set_where b (p s) = l.loop.invariant.1 in
     let small : b < 64 = omega (arith, many_is l) in (
       omega arith,
       λ s w. ⊎_elim
-          (λ u. u.4 ∙ set-with (p s) (one s w) (simp (eq-eqb _ _ u.0.taken, w.bits b small, sym u.1.ensures ∙ u.2.taken)) u.3.ensures small)
+          (λ u. u.4 ∙ set_with (p s) (one s w) (simp (eq-eqb _ _ u.0.taken, w.bits b small, sym u.1.ensures ∙ u.2.taken)) u.3.ensures small)
           (⊎_elim
           (λ u. u.3 ∙ set_same (p s) (one s w) (simp (eq-eqb _ _ u.0.taken, w.bits b small, sym u.1.ensures ∙ u.2.left)))
           (λ u. u.1 ∙ set_same (p s) (one s w) (simp (ne_eqb _ _ u.0.left)))) c.if1.branch,

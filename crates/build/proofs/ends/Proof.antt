@@ -4,9 +4,9 @@ use native.Mathlib.Omega.{arith}
 use borrow.Author.Rules.{rules}
 use lib.Bits.{bit_or}
 use lib.ListN.{length}
-use Rattle.sets.specs.Sets.{setOf}
+use Rattle.sets.specs.Sets.{set_of}
 use Rattle.sets.proofs.InWords.{length-united}
-use Rattle.sets.proofs.Table.{rules-part, part-row, row-long}
+use Rattle.sets.proofs.Table.{rules-part, part_row, row_long}
 use Rattle.build.proofs.ends.Statement.{statement}
 use Rattle.build.proofs.ends.Tie as tie
 
@@ -43,9 +43,9 @@ returns c =
     let e = c.before.before.before.before.ended.ensures in
     let out = a.args.out.now in
     let below = a.args.below in
-    let part = part-row out below in
-    let set = c.before.unite.ensures.1 (rw (part, row-long out below a.requires.3, e.1) (omega arith)) in
-    (set ∙ ap₂ bit_or e.0 (ap setOf part ∙ sym (rules-part out below)), ap length c.before.unite.ensures.0 ∙ length-united _ _ ∙ e.1)
+    let part = part_row out below in
+    let set = c.before.unite.ensures.1 (rw (part, row_long out below a.requires.3, e.1) (omega arith)) in
+    (set ∙ ap₂ bit_or e.0 (ap set_of part ∙ sym (rules-part out below)), ap length c.before.unite.ensures.0 ∙ length-united _ _ ∙ e.1)
 
 pub ends-spec : {M : Type 1} → statement M
 ends-spec =

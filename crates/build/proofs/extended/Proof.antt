@@ -4,17 +4,17 @@ use mathlib.Core.Path.{sym, subst}
 use native.Mathlib.Omega.{arith}
 use lib.ListN.{replicate}
 use borrow.Author.Rules.{rules}
-use Rattle.sets.specs.Sets.{setOf, wordWhere}
-use Rattle.sets.specs.Table.{rowWords}
-use Rattle.sets.proofs.Writing.{Writing, writing_start, writing-next}
-use Rattle.meaning.specs.Step.{goesOn}
-use Rattle.book.specs.Meant.{rulesIn}
-use Rattle.build.proofs.Laws.{is_word, words-made, onward-in}
+use Rattle.sets.specs.Sets.{set_of, word_where}
+use Rattle.sets.specs.Table.{row_words}
+use Rattle.sets.proofs.Writing.{Writing, writing_start, writing_next}
+use Rattle.meaning.specs.Step.{goes_on}
+use Rattle.book.specs.Meant.{rules_in}
+use Rattle.build.proofs.Laws.{is_word, words-made, onward_in}
 use Rattle.build.proofs.extended.Statement.{statement}
 use Rattle.build.proofs.extended.Tie as tie
 
 abbrev invariant-loop : tie.invariant-loop
-invariant-loop symbols lengths pictures rules held live byte set₀ i₀ set i = (i ≤ rowWords) × Writing (wordWhere rules (goesOn (rulesIn symbols lengths pictures rules) held (setOf live) byte)) (replicate rowWords 0) 0 i set
+invariant-loop symbols lengths pictures rules held live byte set₀ i₀ set i = (i ≤ row_words) × Writing (word_where rules (goes_on (rules_in symbols lengths pictures rules) held (set_of live) byte)) (replicate row_words 0) 0 i set
 
 abbrev decreases-loop : tie.decreases-loop
 decreases-loop symbols lengths pictures rules held live byte set₀ i₀ set i = rules - 64 * i
@@ -56,14 +56,14 @@ loop-again c =
     let ws = a.args.live.now in
     let i = l.loop.i in
     let few = a.requires.0.few in
-    (omega arith, writing-next (omega arith) (omega arith) (c.extended-word.ensures (setOf ws) (is_word ws (λ j. (c.before.shared-slice-known2.given j).fits) i)) l.loop.invariant.1)
+    (omega arith, writing_next (omega arith) (omega arith) (c.extended-word.ensures (set_of ws) (is_word ws (λ j. (c.before.shared-slice-known2.given j).fits) i)) l.loop.invariant.1)
 
 returns : tie.Need-returns invariant-loop decreases-loop
 returns c =
     let l = c.before in
     let a = l.before.before.before in
     let made = words-made a.args.rules _ l.loop.i l.loop.set a.requires.0.few c.loop-test.false l.loop.invariant.1 in
-    (onward-in a.args.symbols.now a.args.lengths.now a.args.pictures.now a.args.rules a.args.held (setOf a.args.live.now) a.args.byte made.0, made.1)
+    (onward_in a.args.symbols.now a.args.lengths.now a.args.pictures.now a.args.rules a.args.held (set_of a.args.live.now) a.args.byte made.0, made.1)
 
 pub extended-spec : {M : Type 1} → statement M
 extended-spec =

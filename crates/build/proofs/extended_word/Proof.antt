@@ -6,18 +6,18 @@ use mathlib.Core.Logic.{⊎_elim}
 use native.Mathlib.Omega.{arith}
 use borrow.Author.Rules.{rules}
 use lib.ListN.{get_or}
-use Rattle.sets.specs.Sets.{setWhere}
-use Rattle.meaning.specs.Step.{goesOn}
-use Rattle.book.specs.Limits.{mostSymbols}
-use Rattle.book.specs.Meant.{rulesIn}
+use Rattle.sets.specs.Sets.{set_where}
+use Rattle.meaning.specs.Step.{goes_on}
+use Rattle.book.specs.Limits.{most_symbols}
+use Rattle.book.specs.Meant.{rules_in}
 use Rattle.build.specs.Sets.{IsWord}
-use Rattle.build.proofs.Laws.{set-with, set_same, goes_in, stops-in}
+use Rattle.build.proofs.Laws.{set_with, set_same, goes_in, stops_in}
 use Rattle.build.proofs.extended_word.Statement.{statement}
 use Rattle.build.proofs.extended_word.Tie as tie
 
 abbrev invariant-loop : tie.invariant-loop
 invariant-loop symbols lengths pictures rules held i live byte base many set₀ bit₀ set bit =
-    (bit ≤ many) × ((s : ℕ) → IsWord s i live → set ≡ setWhere bit (λ j. goesOn (rulesIn symbols lengths pictures rules) held s byte (64 * i + j)))
+    (bit ≤ many) × ((s : ℕ) → IsWord s i live → set ≡ set_where bit (λ j. goes_on (rules_in symbols lengths pictures rules) held s byte (64 * i + j)))
 
 abbrev decreases-loop : tie.decreases-loop
 decreases-loop symbols lengths pictures rules held i live byte base many set₀ bit₀ set bit = many - bit
@@ -29,7 +29,7 @@ start l = l.before.before
 many_is : (l : tie.At-loop invariant-loop decreases-loop) → l.before.least.result ≡ min 64 ((start l).args.rules - 64 * (start l).args.i)
 many_is l = l.before.least.ensures
 
-short : (c : tie.In-loop invariant-loop decreases-loop) → get_or (start c.before).args.lengths.now (64 * (start c.before).args.i + c.before.loop.bit) 0 ≤ mostSymbols
+short : (c : tie.In-loop invariant-loop decreases-loop) → get_or (start c.before).args.lengths.now (64 * (start c.before).args.i + c.before.loop.bit) 0 ≤ most_symbols
 short c = (start c.before).pre.0.short (64 * (start c.before).args.i + c.before.loop.bit)
 
 mul-base : tie.Need-overflow-mul-base invariant-loop decreases-loop
@@ -42,7 +42,7 @@ least-requires : tie.Need-least-requires invariant-loop decreases-loop
 least-requires c κs = search rules
 
 loop-holds : tie.Need-loop-init invariant-loop decreases-loop
-unfolding setWhere
+unfolding set_where
 loop-holds c = (omega arith, λ s w. refl)
 
 add-k : tie.Need-overflow-add-k invariant-loop decreases-loop
@@ -90,16 +90,16 @@ loop-again c =
     let a = (start l).args in
     let go = c.before.before.loop-test.true in
     let b = l.loop.bit in
-    let p : ℕ → ℕ → Bool = λ s j. goesOn (rulesIn a.symbols.now a.lengths.now a.pictures.now a.rules) a.held s a.byte (64 * a.i + j) in
-    let one : (s : ℕ) → IsWord s a.i a.live → l.loop.set ≡ setWhere b (p s) = l.loop.invariant.1 in
+    let p : ℕ → ℕ → Bool = λ s j. goes_on (rules_in a.symbols.now a.lengths.now a.pictures.now a.rules) a.held s a.byte (64 * a.i + j) in
+    let one : (s : ℕ) → IsWord s a.i a.live → l.loop.set ≡ set_where b (p s) = l.loop.invariant.1 in
     let below : 64 * a.i + b < a.rules = omega (arith, many_is l) in
     let small : b < 64 = omega (arith, many_is l) in (
       omega arith,
       λ s w. ⊎_elim
-          (λ u. u.5 ∙ set-with (p s) (one s w) (goes_in _ _ _ _ _ _ _ _ _ _ (w.bits b small) below u.0.taken u.2.ensures ∙ u.3.taken) u.4.ensures small)
+          (λ u. u.5 ∙ set_with (p s) (one s w) (goes_in _ _ _ _ _ _ _ _ _ _ (w.bits b small) below u.0.taken u.2.ensures ∙ u.3.taken) u.4.ensures small)
           (⊎_elim
           (λ u. u.4 ∙ set_same (p s) (one s w) (goes_in _ _ _ _ _ _ _ _ _ _ (w.bits b small) below u.0.taken u.2.ensures ∙ u.3.left))
-          (λ u. u.1 ∙ set_same (p s) (one s w) (stops-in _ _ _ _ _ _ _ _ below u.0.left))) c.if1.branch,
+          (λ u. u.1 ∙ set_same (p s) (one s w) (stops_in _ _ _ _ _ _ _ _ below u.0.left))) c.if1.branch,
     )
 
 returns : tie.Need-returns invariant-loop decreases-loop

@@ -4,18 +4,18 @@ use mathlib.Core.Path.{refl, subst, ◌∙◌}
 use native.Mathlib.Nat.{le_antisymm}
 use native.Mathlib.Omega.{arith}
 use borrow.Author.Rules.{rules}
-use Rattle.book.specs.Limits.{mostRows}
-use Rattle.book.specs.Meant.{rulesIn}
-use Rattle.build.specs.Course.{Building, start, grow, stuck, RowBuilt, others, chainAt, Chains, RowsUsed}
-use Rattle.build.proofs.Laws.{short-in}
-use Rattle.build.proofs.Chains.{chains-start}
+use Rattle.book.specs.Limits.{most_rows}
+use Rattle.book.specs.Meant.{rules_in}
+use Rattle.build.specs.Course.{Building, start, grow, stuck, RowBuilt, others, chain_at, Chains, RowsUsed}
+use Rattle.build.proofs.Laws.{short_in}
+use Rattle.build.proofs.Chains.{chains_start}
 use Rattle.build.proofs.Sanity.{Grown, grown, rising, row_keeps, all-at}
 use Rattle.build.proofs.fill_all.Statement.{statement}
 use Rattle.build.proofs.fill_all.Tie as tie
 
 abbrev invariant-loop : tie.invariant-loop
 invariant-loop symbols lengths pictures rules goto₀ fall₀ held₀ live₀ out₀ lent first₀ older₀ n₀ s₀ goto fall held live out first older n s =
-    (s ≤ n) × Building (rulesIn symbols lengths pictures rules) lent goto₀ (others fall₀ held₀ live₀ out₀) s goto n (others fall held live out) × Chains first older (chainAt fall live) n
+    (s ≤ n) × Building (rules_in symbols lengths pictures rules) lent goto₀ (others fall₀ held₀ live₀ out₀) s goto n (others fall held live out) × Chains first older (chain_at fall live) n
 
 abbrev decreases-loop : tie.decreases-loop
 decreases-loop symbols lengths pictures rules goto₀ fall₀ held₀ live₀ out₀ lent first₀ older₀ n₀ s₀ goto fall held live out first older n s = lent - s
@@ -34,10 +34,10 @@ abbrev row_at : tie.After-known-told invariant-loop decreases-loop → tie.After
 row_at c = c.before.before.before.before.before.before.before.before.before.before.before.before.before
 
 so_far : (l : tie.At-loop invariant-loop decreases-loop) → Grown (entry l).args.lent (entry l).args.goto.now (others (entry l).args.fall.now (entry l).args.held.now (entry l).args.live.now (entry l).args.out.now) l.loop.n l.loop.goto (others l.loop.fall l.loop.held l.loop.live l.loop.out)
-so_far l = grown (short-in _ _ _ _ (entry l).requires.0) (entry l).requires.1 l.loop.invariant.1
+so_far l = grown (short_in _ _ _ _ (entry l).requires.0) (entry l).requires.1 l.loop.invariant.1
 
 loop-holds : tie.Need-loop-init invariant-loop decreases-loop
-loop-holds c = (omega arith, start, chains-start mostRows refl _)
+loop-holds c = (omega arith, start, chains_start most_rows refl _)
 
 build-row-requires : tie.Need-build-row-requires invariant-loop decreases-loop
 build-row-requires c κs =
@@ -87,7 +87,7 @@ loop-again c =
     let i = turn p in
     let l = i.before in
     let r = subst (RowBuilt _ _ _ _ _ _ _ _) c.before.filled.given.1 p.build-row.ensures.0 in (
-      omega (arith, i.loop-test.taken, (row_keeps (short-in _ _ _ _ (entry l).pre.0) (so_far l).sane i.loop-test.taken r).grown),
+      omega (arith, i.loop-test.taken, (row_keeps (short_in _ _ _ _ (entry l).pre.0) (so_far l).sane i.loop-test.taken r).grown),
       grow l.loop.inv.1 i.loop-test.taken r,
       p.build-row.ensures.1 _ c.before.filled.given.1,
     )

@@ -4,17 +4,17 @@ use mathlib.Core.Path.{subst, ◌∙◌}
 use native.Mathlib.Nat.{lt_of_lt_of_le, le_antisymm}
 use native.Mathlib.Omega.{arith}
 use borrow.Author.Rules.{rules}
-use Rattle.book.specs.Meant.{rulesIn}
-use Rattle.build.specs.Course.{Filling, begin, next, short, others, chainAt, Chains, Place}
-use Rattle.build.proofs.Steps.{filling-keeps, filling-long, filling-in-hand, whole-at}
-use Rattle.build.proofs.Chains.{chains-filled, not-filled}
+use Rattle.book.specs.Meant.{rules_in}
+use Rattle.build.specs.Course.{Filling, begin, next, short, others, chain_at, Chains, Place}
+use Rattle.build.proofs.Steps.{filling-keeps, filling-long, filling_in_hand, whole_at}
+use Rattle.build.proofs.Chains.{chains_filled, not_filled}
 use Rattle.build.proofs.fill_row.Statement.{statement}
 use Rattle.build.proofs.fill_row.Tie as tie
 
 abbrev invariant-loop : tie.invariant-loop
 invariant-loop symbols lengths pictures rules row₀ fall₀ held₀ live₀ out₀ first₀ older₀ lent n s via rows₀ c₀ row fall held live out first older rows c =
-    (c ≤ 256) × Filling (rulesIn symbols lengths pictures rules) lent s via row₀ n (others fall₀ held₀ live₀ out₀) c row rows (others fall held live out)
-    × Chains first older (chainAt fall live) rows
+    (c ≤ 256) × Filling (rules_in symbols lengths pictures rules) lent s via row₀ n (others fall₀ held₀ live₀ out₀) c row rows (others fall held live out)
+    × Chains first older (chain_at fall live) rows
 
 abbrev decreases-loop : tie.decreases-loop
 decreases-loop symbols lengths pictures rules row₀ fall₀ held₀ live₀ out₀ first₀ older₀ lent n s via rows₀ c₀ row fall held live out first older rows c = 256 - c
@@ -48,7 +48,7 @@ place-requires c κs =
     let l = i.before in
     let a = start l in
     let f = l.loop.invariant.1 in
-    (a.pre.0, (filling-in-hand a.pre.1.0 f, (lt_of_lt_of_le (a.pre.1.1.1.0 _ i.loop-test.true) (filling-keeps f).grown, l.loop.invariant.2)))
+    (a.pre.0, (filling_in_hand a.pre.1.0 f, (lt_of_lt_of_le (a.pre.1.1.1.0 _ i.loop-test.true) (filling-keeps f).grown, l.loop.invariant.2)))
 
 enum-known-placed : tie.Need-enum-known-placed invariant-loop decreases-loop
 enum-known-placed c = search rules
@@ -84,7 +84,7 @@ returns : tie.Need-returns invariant-loop decreases-loop
 returns c =
     let p = placed_at c in
     let l = loop-at p in
-    (short p.before.before.before.before.before.before.before.loop-test.taken l.loop.inv.1 (subst (Place _ _ _ _ _ _ _ _) c.enum_told.given.1 p.place.ensures.0), λ m q. not-filled q)
+    (short p.before.before.before.before.before.before.before.loop-test.taken l.loop.inv.1 (subst (Place _ _ _ _ _ _ _ _) c.enum_told.given.1 p.place.ensures.0), λ m q. not_filled q)
 
 add-c : tie.Need-overflow-add-c invariant-loop decreases-loop
 add-c c = omega arith
@@ -119,7 +119,7 @@ same-length-10 c = (filling-keeps c.before.loop.invariant.1).out.long
 returns-2 : tie.Need-returns-2 invariant-loop decreases-loop
 returns-2 c =
     let l = c.before in
-    (whole-at (le_antisymm l.loop.invariant.0 c.loop-test.false) l.loop.invariant.1, λ m q. chains-filled q l.loop.invariant.2)
+    (whole_at (le_antisymm l.loop.invariant.0 c.loop-test.false) l.loop.invariant.1, λ m q. chains_filled q l.loop.invariant.2)
 
 pub fill-row-spec : {M : Type 1} → statement M
 fill-row-spec =

@@ -6,13 +6,13 @@ use native.Mathlib.Omega.{arith}
 use borrow.Author.Rules.{rules}
 use borrow.Author.Tests.{eqb-true, eq-eqb}
 use lib.ListN.{get_or}
-use Rattle.sets.specs.Sets.{setOf}
-use Rattle.build.proofs.Chains.{Searched, searched-start, searched-next, searched-short, searched-end}
+use Rattle.sets.specs.Sets.{set_of}
+use Rattle.build.proofs.Chains.{Searched, searched_start, searched_next, searched_short, searched_end}
 use Rattle.build.proofs.find_row.Statement.{statement}
 use Rattle.build.proofs.find_row.Tie as tie
 
 abbrev invariant-loop : tie.invariant-loop
-invariant-loop fall held live first older n h l f i₀ i = (i < n) × Searched held live fall n h (setOf l) f i
+invariant-loop fall held live first older n h l f i₀ i = (i < n) × Searched held live fall n h (set_of l) f i
 
 abbrev decreases-loop : tie.decreases-loop
 decreases-loop fall held live first older n h l f i₀ i = i
@@ -36,7 +36,7 @@ cast-i c = omega (arith, (c.before.before.before.before.before.before.requires.1
 loop-holds : tie.Need-loop-init invariant-loop decreases-loop
 loop-holds c =
     let k = c.before.before.before.before.before.before.requires.1.1 in
-    rw c.before.chain.ensures.0 ((k.heads _).below, searched-start (k.heads _))
+    rw c.before.chain.ensures.0 ((k.heads _).below, searched_start (k.heads _))
 
 shared-slice-read-if1 : tie.Need-shared-slice-read-if1 invariant-loop decreases-loop
 shared-slice-read-if1 c = search rules
@@ -46,7 +46,7 @@ returns c =
     let l = c.before.before.before in
     record {
       here = λ h. absurd (omega arith);
-      none = λ _. searched-short l.loop.invariant.1 (start l).requires.1.0 l.loop.invariant.0 c.if1.true;
+      none = λ _. searched_short l.loop.invariant.1 (start l).requires.1.0 l.loop.invariant.0 c.if1.true;
     }
 
 is-key-requires : tie.Need-is-key-requires invariant-loop decreases-loop
@@ -59,7 +59,7 @@ returns-2 c =
     let top = (start l).requires.1.0.top l.loop.i l.loop.invariant.0 in
     let both = (and-eq-true_iff _ _).0 (sym c.before.is_key.ensures ∙ c.if2.true) in
     record {
-      here = λ _. record { held-is = omega (arith, e.if1.false); live-is = eqb-true _ _ both.0; fall-is = eqb-true _ _ both.1 };
+      here = λ _. record { held_is = omega (arith, e.if1.false); live_is = eqb-true _ _ both.0; fall_is = eqb-true _ _ both.1 };
       none = λ h. absurd (omega arith);
     }
 
@@ -87,14 +87,14 @@ loop-again c =
     let i = turn c in
     let inv = i.before.loop.inv in (
       omega (arith, older-below i, inv.0),
-      searched-next inv.1 i.loop-test.taken ((start i.before).pre.1.1.links i.before.loop.i inv.0 i.loop-test.taken)
-          (λ y. true≢false (sym (c.before.before.is_key.ensures ∙ rw (eq-eqb _ _ y.live-is, eq-eqb _ _ y.fall-is)) ∙ c.before.if2.false)),
+      searched_next inv.1 i.loop-test.taken ((start i.before).pre.1.1.links i.before.loop.i inv.0 i.loop-test.taken)
+          (λ y. true≢false (sym (c.before.before.is_key.ensures ∙ rw (eq-eqb _ _ y.live_is, eq-eqb _ _ y.fall_is)) ∙ c.before.if2.false)),
     )
 
 returns-3 : tie.Need-returns-3 invariant-loop decreases-loop
 returns-3 c =
     let l = c.before in
-    record { here = λ h. absurd (omega arith); none = λ _. searched-end (start l).requires.1.0 (rw c.loop-test.false at l.loop.invariant.1) }
+    record { here = λ h. absurd (omega arith); none = λ _. searched_end (start l).requires.1.0 (rw c.loop-test.false at l.loop.invariant.1) }
 
 pub find-row-spec : {M : Type 1} → statement M
 find-row-spec =

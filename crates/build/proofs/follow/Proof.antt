@@ -5,7 +5,7 @@ use mathlib.Core.List.{List}
 use native.Mathlib.Nat.{zero-add}
 use native.Mathlib.Omega.{arith}
 use lib.ListN.{get_or}
-use Rattle.meaning.specs.Tables.{noEntry}
+use Rattle.meaning.specs.Tables.{no_entry}
 use Rattle.meaning.specs.Step.{goes, falls}
 use Rattle.build.specs.Course.{Leads, Descends}
 use Rattle.build.proofs.follow.Statement.{statement}
@@ -41,8 +41,8 @@ shared-slice-read-r c = omega arith
 cast-r : tie.Need-overflow-cast-r invariant-loop decreases-loop
 cast-r c = omega (arith, c.shared-slice-known2.given c.before.before.before.loop.r)
 
-not_last : (goto fall : List ℕ) (row c r : ℕ) → Descends goto fall row → c < 256 → get_or goto (256 * r + c) 0 ≡ noEntry → r ≡ 0 → ⊥
-not_last goto fall row c r d l e z = d.last c l (subst (λ (n : ℕ). get_or goto n 0 ≡ noEntry) (ap (λ (n : ℕ). 256 * n + c) z ∙ zero-add c) e)
+not_last : (goto fall : List ℕ) (row c r : ℕ) → Descends goto fall row → c < 256 → get_or goto (256 * r + c) 0 ≡ no_entry → r ≡ 0 → ⊥
+not_last goto fall row c r d l e z = d.last c l (subst (λ (n : ℕ). get_or goto n 0 ≡ no_entry) (ap (λ (n : ℕ). 256 * n + c) z ∙ zero-add c) e)
 
 lower : (c : tie.After-shared-slice-known2 invariant-loop decreases-loop) → get_or c.before.before.before.before.args.fall.now c.before.before.before.loop.r 0 < c.before.before.before.loop.r
 lower c =

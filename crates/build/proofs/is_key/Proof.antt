@@ -2,7 +2,7 @@
 use mathlib.Core.Path.{sym, ◌∙◌}
 use borrow.Author.Rules.{rules}
 use borrow.Author.Tests.{not-true, not-false}
-use Rattle.sets.proofs.Table.{part-row}
+use Rattle.sets.proofs.Table.{part_row}
 use Rattle.build.proofs.Steps.{same_row}
 use Rattle.build.proofs.is_key.Statement.{statement}
 use Rattle.build.proofs.is_key.Tie as tie
@@ -31,7 +31,7 @@ same-requires c κs = search rules
 returns : tie.Need-returns
 returns c =
     let a = c.before.before.before.before.before.before in
-    let same = same_row a.args.live.now a.args.l.now a.args.i (c.before.same.ensures ∙ rw (part-row a.args.live.now a.args.i)) a.requires.1 a.requires.2 in
+    let same = same_row a.args.live.now a.args.l.now a.args.i (c.before.same.ensures ∙ rw (part_row a.args.live.now a.args.i)) a.requires.1 a.requires.2 in
     rw (sym same ∙ not-true _ c.if1.true)
 
 mul-result : tie.Need-overflow-mul-result
@@ -43,7 +43,7 @@ shared-slice-read-result c = search rules
 returns-2 : tie.Need-returns-2
 returns-2 c =
     let a = c.before.before.before.before.before.before.before in
-    let same = same_row a.args.live.now a.args.l.now a.args.i (c.before.before.same.ensures ∙ rw (part-row a.args.live.now a.args.i)) a.requires.1 a.requires.2 in
+    let same = same_row a.args.live.now a.args.l.now a.args.i (c.before.before.same.ensures ∙ rw (part_row a.args.live.now a.args.i)) a.requires.1 a.requires.2 in
     rw (sym same ∙ not-false _ c.before.if1.false)
 
 pub is-key-spec : {M : Type 1} → statement M

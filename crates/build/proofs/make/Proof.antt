@@ -3,7 +3,7 @@ use mathlib.Core.Path.{◌∙◌, subst}
 use mathlib.Core.List.{List}
 use Prim.Native.Nat.{ℕ}
 use Rattle.build.specs.Course.{AllFilled, Others, others}
-use Rattle.build.proofs.Zeroed.{sane-at, empty-at, rows_at, refused-at, zeros-as}
+use Rattle.build.proofs.Zeroed.{sane_at, empty_at, rows_at, refused_at, zeros_as}
 use borrow.Author.Rules.{rules}
 use Rattle.build.proofs.make.Statement.{statement}
 use Rattle.build.proofs.make.Tie as tie
@@ -21,14 +21,14 @@ zeroed-at c = c.before.before.before.before.before.before.before.before.before.b
 abbrev lent_at : tie.After-zero-all → tie.After-rows-lent
 lent_at z = z.before.before.before.before.before.before
 
-abbrev start-at : tie.After-zero-all → tie.Start
-start-at z = (lent_at z).before.before.before.before.before.before
+abbrev start_at : tie.After-zero-all → tie.Start
+start_at z = (lent_at z).before.before.before.before.before.before
 
 abbrev goto-of : tie.After-zero-all → List ℕ
-goto-of z = (start-at z).args.goto.now
+goto-of z = (start_at z).args.goto.now
 
 abbrev others-of : tie.After-zero-all → Others
-others-of z = others (start-at z).args.fall.now (start-at z).args.held.now (start-at z).args.live.now (start-at z).args.out.now
+others-of z = others (start_at z).args.fall.now (start_at z).args.held.now (start_at z).args.live.now (start_at z).args.out.now
 
 -- the four that the first call left
 abbrev zero_of : tie.After-zero-all → Others
@@ -58,13 +58,13 @@ same-length-5 c = search rules
 returns : tie.Need-returns
 returns c =
     let z = zeroed-at c.before in
-    empty-at (goto-of z) (others-of z) {w = zero_of z} (lent_at z).rows-lent.ensures z.zero-all.ensures _ c.if1.true
+    empty_at (goto-of z) (others-of z) {w = zero_of z} (lent_at z).rows-lent.ensures z.zero-all.ensures _ c.if1.true
 
 fill-all-requires : tie.Need-fill-all-requires
 fill-all-requires c κs =
     let e = c.before.before.before.before.before.before.before.before.before.before.before in
     let z = zeroed-at e.before in
-    ((start-at z).pre, sane-at (goto-of z) (others-of z) {w = zero_of z} (lent_at z).rows-lent.ensures z.zero-all.ensures e.if1.false)
+    ((start_at z).pre, sane_at (goto-of z) (others-of z) {w = zero_of z} (lent_at z).rows-lent.ensures z.zero-all.ensures e.if1.false)
 
 enum-known-filled : tie.Need-enum-known-filled
 enum-known-filled c = search rules
@@ -139,12 +139,12 @@ returns-3 c =
     let k = f.fill-all.kept.1.1.1.1 in
     let j = z.zero-all.kept in
     let q = y.zero-all2.ensures in
-    refused-at (goto-of z) (others-of z) {w = zero_of z} (lent_at z).rows-lent.ensures z.zero-all.ensures (left_at f).if1.left (subst (AllFilled _ _ _ _ _ _) c.before.before.before.before.before.before.before.before.before.before.before.before.before.before.before.before.enum_told.given.1 f.fill-all.ensures) (
-      zeros-as q.0 (k.0 ∙ j.0),
-      zeros-as q.1 (k.1.0 ∙ j.1.0),
-      zeros-as q.2 (k.1.1.0 ∙ j.1.1.0),
-      zeros-as q.3 (k.1.1.1.0 ∙ j.1.1.1.0),
-      zeros-as q.4 (k.1.1.1.1.0 ∙ j.1.1.1.1.0),
+    refused_at (goto-of z) (others-of z) {w = zero_of z} (lent_at z).rows-lent.ensures z.zero-all.ensures (left_at f).if1.left (subst (AllFilled _ _ _ _ _ _) c.before.before.before.before.before.before.before.before.before.before.before.before.before.before.before.before.enum_told.given.1 f.fill-all.ensures) (
+      zeros_as q.0 (k.0 ∙ j.0),
+      zeros_as q.1 (k.1.0 ∙ j.1.0),
+      zeros_as q.2 (k.1.1.0 ∙ j.1.1.0),
+      zeros_as q.3 (k.1.1.1.0 ∙ j.1.1.1.0),
+      zeros_as q.4 (k.1.1.1.1.0 ∙ j.1.1.1.1.0),
     )
 
 pub make_spec : {M : Type 1} → statement M

@@ -3,14 +3,14 @@ use mathlib.Core.Path.{◌≡◌, sym, ◌∙◌}
 use mathlib.Core.Logic.{◌≢◌}
 use borrow.Author.Rules.{rules}
 use borrow.Author.Tests.{eqb-true, eqb-false}
-use Rattle.sets.specs.Sets.{setOf}
-use Rattle.sets.proofs.Table.{rules-part, part-row}
+use Rattle.sets.specs.Sets.{set_of}
+use Rattle.sets.proofs.Table.{rules-part, part_row}
 use Rattle.meaning.specs.Rules.{Rules}
-use Rattle.book.specs.Meant.{rulesIn}
+use Rattle.book.specs.Meant.{rules_in}
 use Rattle.build.specs.Course.{Others, others, onward, root, none}
-use Rattle.build.proofs.Laws.{ended-in}
+use Rattle.build.proofs.Laws.{ended_in_lem}
 use Rattle.build.proofs.Steps.{some_with}
-use Rattle.build.proofs.Chains.{chains-placed}
+use Rattle.build.proofs.Chains.{chains_placed}
 use Rattle.build.proofs.place.Statement.{statement}
 use Rattle.build.proofs.place.Tie as tie
 
@@ -19,16 +19,16 @@ abbrev entry : tie.After-extended → tie.Start
 entry x = x.before.before.before.before.before.before.before.before
 
 abbrev rules-at : tie.Start → Rules
-rules-at a = rulesIn a.args.symbols.now a.args.lengths.now a.args.pictures.now a.args.rules
+rules-at a = rules_in a.args.symbols.now a.args.lengths.now a.args.pictures.now a.args.rules
 
 abbrev tables-at : tie.Start → Others
 tables-at a = others a.args.fall.now a.args.held.now a.args.live.now a.args.out.now
 
 -- what goes on
-on : (x : tie.After-extended) → setOf x.extended.result ≡ onward (rules-at (entry x)) (tables-at (entry x)) (entry x).args.s (entry x).args.byte
+on : (x : tie.After-extended) → set_of x.extended.result ≡ onward (rules-at (entry x)) (tables-at (entry x)) (entry x).args.s (entry x).args.byte
 on x =
     let a = entry x in
-    x.extended.ensures.0 ∙ rw (part-row a.args.live.now a.args.s, rules-part a.args.live.now a.args.s)
+    x.extended.ensures.0 ∙ rw (part_row a.args.live.now a.args.s, rules-part a.args.live.now a.args.s)
 
 slice-read-h : tie.Need-slice-read-h
 slice-read-h c = search rules
@@ -70,7 +70,7 @@ returns : tie.Need-returns
 returns c =
     let e = c.before.before in
     let x = e.before.before in
-    (root c.if2.true (sym (on x) ∙ eqb-true _ _ (sym e.is-empty.ensures ∙ c.before.if1.true)), λ e m q. chains-placed q (entry x).requires.1.1.1)
+    (root c.if2.true (sym (on x) ∙ eqb-true _ _ (sym e.is-empty.ensures ∙ c.before.if1.true)), λ e m q. chains_placed q (entry x).requires.1.1.1)
 
 same-length-2 : tie.Need-same-length-2
 same-length-2 c = search rules
@@ -79,7 +79,7 @@ returns-2 : tie.Need-returns-2
 returns-2 c =
     let e = c.before.before in
     let x = e.before.before in
-    (none c.if2.false (sym (on x) ∙ eqb-true _ _ (sym e.is-empty.ensures ∙ c.before.if1.true)), λ e m q. chains-placed q (entry x).requires.1.1.1)
+    (none c.if2.false (sym (on x) ∙ eqb-true _ _ (sym e.is-empty.ensures ∙ c.before.if1.true)), λ e m q. chains_placed q (entry x).requires.1.1.1)
 
 add-row-of : tie.Need-overflow-add-row-of
 add-row-of c = search rules
@@ -111,8 +111,8 @@ returns-3 c =
     let r = c.before.before.before.before.before.before.before.before in
     let e = r.before.before.before.before.before.before.before.before in
     let x = e.before.before.before in
-    let some : setOf x.extended.result ≢ 0 = eqb-false _ _ (sym e.before.is-empty.ensures ∙ e.if1.false) in
-    (some_with (on x) (ended-in _ _ _ _ _ _) some r.row_of.ensures.0, r.row_of.ensures.1)
+    let some : set_of x.extended.result ≢ 0 = eqb-false _ _ (sym e.before.is-empty.ensures ∙ e.if1.false) in
+    (some_with (on x) (ended_in_lem _ _ _ _ _ _) some r.row_of.ensures.0, r.row_of.ensures.1)
 
 pub place-spec : {M : Type 1} → statement M
 place-spec =

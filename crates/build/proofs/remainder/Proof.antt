@@ -7,27 +7,27 @@ use native.Mathlib.Omega.{arith}
 use borrow.Author.Rules.{rules}
 use lib.ListN.{length, get_or, drop}
 use lib.Seq.{drop-cons, drop-length}
-use Rattle.sets.specs.Sets.{setOf}
+use Rattle.sets.specs.Sets.{set_of}
 use Rattle.build.proofs.remainder.Statement.{statement}
 use Rattle.build.proofs.remainder.Tie as tie
 
 abbrev invariant-loop : tie.invariant-loop
-invariant-loop set rest₀ left₀ rest left = (left ≤ length set) × (rest ≡ setOf (drop left set) % 4093)
+invariant-loop set rest₀ left₀ rest left = (left ≤ length set) × (rest ≡ set_of (drop left set) % 4093)
 
 abbrev decreases-loop : tie.decreases-loop
 decreases-loop set rest₀ left₀ rest left = left
 
 -- one digit more
-digit-more : (ws : List ℕ) (i rest : ℕ) → i < length ws → rest ≡ setOf (drop (suc i) ws) % 4093 → (3888 * rest + get_or ws i 0 % 4093) % 4093 ≡ setOf (drop i ws) % 4093
-unfolding setOf
+digit-more : (ws : List ℕ) (i rest : ℕ) → i < length ws → rest ≡ set_of (drop (suc i) ws) % 4093 → (3888 * rest + get_or ws i 0 % 4093) % 4093 ≡ set_of (drop i ws) % 4093
+unfolding set_of
 digit-more ws i rest h e =
-    let s = setOf (drop (suc i) ws) in
+    let s = set_of (drop (suc i) ws) in
     let w = get_or ws i 0 in
     let q : s * 2 ^ 64 + w ≡ 3888 * rest + w + 4093 * (s / 4093 * 2 ^ 64 + rest * 4506900579943696) = omega (arith, div-add-mod s 4093) in
     rw (drop-cons ws i 0 h) (add-mod-mod (3888 * rest) w 4093 ∙ sym (ap (λ n. n % 4093) q ∙ add-mul-mod_self_left (3888 * rest + w) 4093 (s / 4093 * 2 ^ 64 + rest * 4506900579943696)))
 
 loop-holds : tie.Need-loop-init invariant-loop decreases-loop
-unfolding setOf
+unfolding set_of
 loop-holds c = (omega arith, rw (drop-length c.args.set.now))
 
 sub-left : tie.Need-overflow-sub-left invariant-loop decreases-loop

@@ -2,10 +2,10 @@
 use Prim.Native.Nat.{◌<◌}
 use native.Mathlib.Omega.{arith}
 use borrow.Author.Rules.{rules}
-use Rattle.book.specs.Limits.{mostRows}
+use Rattle.book.specs.Limits.{most_rows}
 use Rattle.build.specs.Course.{there, made, full}
 use Rattle.build.proofs.Steps.{room_next}
-use Rattle.build.proofs.Chains.{chain-put, chains-more, chains-placed, not-placed}
+use Rattle.build.proofs.Chains.{chain_put, chains_more, chains_placed, not_placed}
 use Rattle.build.proofs.row_of.Statement.{statement}
 use Rattle.build.proofs.row_of.Tie as tie
 
@@ -20,7 +20,7 @@ free c = c.before.before.before.before.before
 abbrev added : tie.After-chain → tie.After-add-row
 added c = c.before.before.before.before.before.before.before.before.before
 
-few : (c : tie.After-chain) → (entry (free (added c)).before.before).args.n < mostRows
+few : (c : tie.After-chain) → (entry (free (added c)).before.before).args.n < most_rows
 few c = omega (arith, (entry (free (added c)).before.before).requires.1.0.few, (free (added c)).if2.false)
 
 find-row-requires : tie.Need-find-row-requires
@@ -41,7 +41,7 @@ same-length-3 c = search rules
 returns : tie.Need-returns
 returns c =
     let k = (entry c.before).requires.1.1.1.1 in
-    (there _ c.if1.true (c.before.find-row.ensures.here c.if1.true), λ e m q. chains-placed q k)
+    (there _ c.if1.true (c.before.find-row.ensures.here c.if1.true), λ e m q. chains_placed q k)
 
 same-length-4 : tie.Need-same-length-4
 same-length-4 c = search rules
@@ -54,7 +54,7 @@ same-length-6 c = search rules
 
 returns-2 : tie.Need-returns-2
 returns-2 c =
-    (full (c.before.before.find-row.ensures.none c.before.if1.false) c.if2.true, λ e m q. not-placed q)
+    (full (c.before.before.find-row.ensures.none c.before.if1.false) c.if2.true, λ e m q. not_placed q)
 
 add-row-requires : tie.Need-add-row-requires
 add-row-requires c κs =
@@ -112,7 +112,7 @@ returns-3 c =
     let a = entry f.before.before in
     let put = x.add_row.ensures in (
       made (f.before.before.find-row.ensures.none f.before.if1.left) f.if2.left put,
-      λ e m q. chains-placed q (chains-more a.pre.1.1.1.1 (chain-put put.fall-put put.live-put g.chain.ensures.0) g.chain.ensures.1 (few g)),
+      λ e m q. chains_placed q (chains_more a.pre.1.1.1.1 (chain_put put.fall-put put.live-put g.chain.ensures.0) g.chain.ensures.1 (few g)),
     )
 
 pub row-of-spec : {M : Type 1} → statement M

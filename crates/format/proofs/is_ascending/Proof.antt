@@ -3,22 +3,22 @@ use Prim.Native.Nat.{◌≤◌, ◌-◌}
 use mathlib.Core.Path.{◌≡◌, sym, ◌∙◌}
 use borrow.Author.Rules.{rules}
 use lib.ListN.{length, drop}
-use Rattle.format.specs.Format.{rises, ascendingBody}
-use Rattle.format.proofs.Turns.{ascending-empty, ascending-starts, rises-not, rises-more, rises-ends}
+use Rattle.format.specs.Format.{rises, ascending_body}
+use Rattle.format.proofs.Turns.{ascending_empty, ascending_starts, rises_not, rises-more, rises-ends}
 use Rattle.format.proofs.is_ascending.Statement.{statement}
 use Rattle.format.proofs.is_ascending.Tie as tie
 
 abbrev invariant-loop : tie.invariant-loop
-invariant-loop body i₀ i = (i ≤ length body) × (ascendingBody body ≡ rises (drop i body))
+invariant-loop body i₀ i = (i ≤ length body) × (ascending_body body ≡ rises (drop i body))
 
 abbrev decreases-loop : tie.decreases-loop
 decreases-loop body i₀ i = length body - i
 
 returns : tie.Need-returns invariant-loop decreases-loop
-returns c = ascending-empty _ c.if1.true
+returns c = ascending_empty _ c.if1.true
 
 loop-holds : tie.Need-loop-init invariant-loop decreases-loop
-loop-holds c = (search rules, ascending-starts _ c.if1.false)
+loop-holds c = (search rules, ascending_starts _ c.if1.false)
 
 add-loop : tie.Need-overflow-add-loop invariant-loop decreases-loop
 add-loop c = search rules
@@ -35,7 +35,7 @@ shared-slice-read-if2-2 c = search rules
 returns-2 : tie.Need-returns-2 invariant-loop decreases-loop
 returns-2 c =
     let l = c.before.before.before.before in
-    sym (l.loop.invariant.1 ∙ rises-not l.before.before.args.body.now l.loop.i (search rules) (search rules))
+    sym (l.loop.invariant.1 ∙ rises_not l.before.before.args.body.now l.loop.i (search rules) (search rules))
 
 add-i : tie.Need-overflow-add-i invariant-loop decreases-loop
 add-i c = search rules

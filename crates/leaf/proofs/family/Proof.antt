@@ -2,7 +2,7 @@
 use mathlib.Core.Path.{sym, ap₂, ◌∙◌}
 use borrow.Author.Tests.{eq-eqb, ne_eqb}
 use borrow.Author.Rules.{rules}
-use Rattle.leaf.specs.Leaf.{lowestOf, familyAt}
+use Rattle.leaf.specs.Leaf.{lowest_of, family_at}
 use Rattle.leaf.proofs.family.Statement.{statement}
 use Rattle.leaf.proofs.family.Tie as tie
 
@@ -10,7 +10,7 @@ held-at-requires : tie.Need-held-at-requires
 held-at-requires c κs = search rules
 
 returns : tie.Need-returns
-unfolding familyAt
+unfolding family_at
 returns c = sym (rw (ne_eqb _ _ (λ z. c.if1.true (c.before.held_at.ensures ∙ z))))
 
 rules-requires : tie.Need-rules-requires
@@ -29,11 +29,11 @@ lowest-requires : tie.Need-lowest-requires
 lowest-requires c κs = search rules
 
 returns-2 : tie.Need-returns-2
-unfolding familyAt
+unfolding family_at
 returns-2 c =
     let r = c.before.before.before in
     let k = r.before.before in
-    let rules = ap₂ lowestOf r.before.rules.ensures.0 r.rules2.ensures.0 in
+    let rules = ap₂ lowest_of r.before.rules.ensures.0 r.rules2.ensures.0 in
     c.lowest.ensures ∙ rules ∙ sym (rw (eq-eqb _ _ (sym k.before.held_at.ensures ∙ k.if1.false)))
 
 pub family-spec : {M : Type 1} → statement M

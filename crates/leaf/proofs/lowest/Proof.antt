@@ -5,19 +5,19 @@ use native.Mathlib.Omega.{arith}
 use borrow.Author.Rules.{rules}
 use lib.Bits.{bit_and}
 use lib.ListN.{get_or}
-use Rattle.sets.specs.Sets.{setOf, members}
-use Rattle.sets.specs.Table.{rowWords}
+use Rattle.sets.specs.Sets.{set_of, members}
+use Rattle.sets.specs.Table.{row_words}
 use Rattle.sets.proofs.InWords.{Words}
-use Rattle.leaf.specs.Leaf.{lowestOf}
-use Rattle.leaf.proofs.InBoth.{lowestFrom, lowest_start, lowest-end, lowest-here, lowest-next}
+use Rattle.leaf.specs.Leaf.{lowest_of}
+use Rattle.leaf.proofs.InBoth.{lowest_from, lowest_start, lowest_end, lowest_here, lowest_next}
 use Rattle.leaf.proofs.lowest.Statement.{statement}
 use Rattle.leaf.proofs.lowest.Tie as tie
 
 abbrev invariant-loop : tie.invariant-loop
-invariant-loop live out i₀ i = (i ≤ rowWords) × (lowestFrom (setOf live) (setOf out) i ≡ lowestOf (setOf live) (setOf out))
+invariant-loop live out i₀ i = (i ≤ row_words) × (lowest_from (set_of live) (set_of out) i ≡ lowest_of (set_of live) (set_of out))
 
 abbrev decreases-loop : tie.decreases-loop
-decreases-loop live out i₀ i = rowWords - i
+decreases-loop live out i₀ i = row_words - i
 
 -- what is in both words
 both : (w : tie.After-word2 invariant-loop decreases-loop) →
@@ -58,7 +58,7 @@ returns : tie.Need-returns invariant-loop decreases-loop
 returns c =
     let w = c.before.before in
     let l = w.before.before.before in
-    let here = lowest-here _ _ (live-words l) (out-words l) l.loop.i w.before.before.loop-test.true (λ z. c.before.if1.true (both w ∙ z)) in
+    let here = lowest_here _ _ (live-words l) (out-words l) l.loop.i w.before.before.loop-test.true (λ z. c.before.if1.true (both w ∙ z)) in
     ap (λ x. 64 * l.loop.i + x) (c.first.ensures ∙ ap (λ x. get_or (members 64 x) 0 64) (both w)) ∙ sym here ∙ l.loop.invariant.1
 
 add-i : tie.Need-overflow-add-i invariant-loop decreases-loop
@@ -72,10 +72,10 @@ loop-again c =
     let w = c.before in
     let l = w.before.before.before in
     let t = w.before.before.loop-test.true in
-    (omega arith, sym (lowest-next _ _ (live-words l) (out-words l) l.loop.i t (sym (both w) ∙ c.if1.false)) ∙ l.loop.invariant.1)
+    (omega arith, sym (lowest_next _ _ (live-words l) (out-words l) l.loop.i t (sym (both w) ∙ c.if1.false)) ∙ l.loop.invariant.1)
 
 returns-2 : tie.Need-returns-2 invariant-loop decreases-loop
-returns-2 c = sym (lowest-end _ _ c.before.loop.i c.loop-test.false) ∙ c.before.loop.invariant.1
+returns-2 c = sym (lowest_end _ _ c.before.loop.i c.loop-test.false) ∙ c.before.loop.invariant.1
 
 pub lowest-spec : {M : Type 1} → statement M
 lowest-spec =

@@ -6,10 +6,10 @@ use borrow.Author.Rules.{rules}
 use lib.ListN.{length}
 use lib.Seq.{length-take-le}
 use Rattle.lines.specs.declared.Line.TheVariants.{Sound}
-use Rattle.lines.specs.Lines.{mostCount, line_of}
-use Rattle.lines.proofs.Lines.{line-is}
+use Rattle.lines.specs.Lines.{most_count, line_of}
+use Rattle.lines.proofs.Lines.{line_is}
 use Rattle.leaf.proofs.Walks.{ended}
-use Rattle.leaf.proofs.Lines.{leaf-broken, starts, leaf-length, leaf-counts, leaf-fails}
+use Rattle.leaf.proofs.Lines.{leaf_broken, starts, leaf_length, leaf_counts, leaf_fails}
 use Rattle.leaf.proofs.of_line.Statement.{statement}
 use Rattle.leaf.proofs.of_line.Tie as tie
 
@@ -17,8 +17,8 @@ use Rattle.leaf.proofs.of_line.Tie as tie
 known : (c : tie.After-stack) →
     let line = c.before.before.before.before.before.before.before.before.before.args.line.now in
     let v = c.stack.given.0 in
-    ((v.0 < length line) × (v.1.0 ≤ mostCount)) × (line_of line ≡ Sound v.0 v.1.0)
-known c = line-is _ c.before.before.read-line.ensures c.stack.given.1
+    ((v.0 < length line) × (v.1.0 ≤ most_count)) × (line_of line ≡ Sound v.0 v.1.0)
+known c = line_is _ c.before.before.read-line.ensures c.stack.given.1
 
 -- and the leaf starts in it
 begins : (k : tie.After-leaf-start) → k.leaf-start.result ≤ k.before.before.before.stack.given.0.0
@@ -66,7 +66,7 @@ add-t25 c =
     let s = k.before.before in
     let v = s.before.before.before in
     let l = (known v).0.0 in
-    omega (arith, begins s, (ended _ _ k.walk-leaf.ensures c.before.at.given.1).0, leaf-length _ l s.leaf-start.ensures)
+    omega (arith, begins s, (ended _ _ k.walk-leaf.ensures c.before.at.given.1).0, leaf_length _ l s.leaf-start.ensures)
 
 enum_told : tie.Need-enum-told
 enum_told c = search rules
@@ -76,17 +76,17 @@ returns c =
     let k = c.before.before.before.before in
     let s = k.before.before in
     let v = s.before.before.before in
-    leaf-counts _ _ _ (known v).1 (known v).0.0 s.leaf-start.ensures k.walk-leaf.ensures c.before.before.row.given.1 c.family.ensures
+    leaf_counts _ _ _ (known v).1 (known v).0.0 s.leaf-start.ensures k.walk-leaf.ensures c.before.before.row.given.1 c.family.ensures
 
 returns-2 : tie.Need-returns-2
 returns-2 c =
     let k = c.before.before.before in
     let s = k.before.before in
     let v = s.before.before.before in
-    leaf-fails _ _ _ (known v).1 (known v).0.0 s.leaf-start.ensures k.walk-leaf.ensures c.before.at.given.1
+    leaf_fails _ _ _ (known v).1 (known v).0.0 s.leaf-start.ensures k.walk-leaf.ensures c.before.at.given.1
 
 returns-3 : tie.Need-returns-3
-returns-3 c = leaf-broken _ _ _ (line-is _ c.before.before.read-line.ensures c.enum_told.given.1).1
+returns-3 c = leaf_broken _ _ _ (line_is _ c.before.before.read-line.ensures c.enum_told.given.1).1
 
 pub of-line-spec : {M : Type 1} → statement M
 of-line-spec =

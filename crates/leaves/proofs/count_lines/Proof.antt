@@ -6,26 +6,26 @@ use native.Mathlib.Omega.{arith}
 use borrow.Author.Rules.{rules}
 use lib.ListN.{length, drop}
 use Rattle.lent.specs.Lent.{five}
-use Rattle.lines.specs.Lines.{lines_of, passOver}
+use Rattle.lines.specs.Lines.{lines_of, pass_over}
 use Rattle.lines.proofs.Lines.{piece-length}
-use Rattle.shares.specs.Shares.{allPlaces}
-use Rattle.leaves.specs.Totals.{leafPass, leavesPass}
-use Rattle.leaf.proofs.Lines.{fails-within}
+use Rattle.shares.specs.Shares.{all_places}
+use Rattle.leaves.specs.Totals.{leaf_pass, leaves_pass}
+use Rattle.leaf.proofs.Lines.{fails_within}
 use Rattle.lines.proofs.First.{not_through}
-use Rattle.leaves.proofs.Counting.{Counted, counted_none, counted-all, place-there, count_fits, counted_next, leaf-turn, leaves-end}
+use Rattle.leaves.proofs.Counting.{Counted, counted_none, counted-all, place-there, count_fits, counted_next, leaf_turn, leaves_end}
 use Rattle.leaves.proofs.count_lines.Statement.{statement}
 use Rattle.leaves.proofs.count_lines.Tie as tie
 
 abbrev invariant-loop : tie.invariant-loop
 invariant-loop goto fall held live out n profile parts₀ at₀ parts at =
-    (at ≤ length profile + 1) × (passOver (leafPass (five goto fall held live out) n) at (lines_of (drop at profile)) ≡ leavesPass (five goto fall held live out) n profile)
+    (at ≤ length profile + 1) × (pass_over (leaf_pass (five goto fall held live out) n) at (lines_of (drop at profile)) ≡ leaves_pass (five goto fall held live out) n profile)
     × Counted (five goto fall held live out) n profile at parts
 
 abbrev decreases-loop : tie.decreases-loop
 decreases-loop goto fall held live out n profile parts₀ at₀ parts at = length profile - at
 
 -- the place of a line's leaf is one of all
-there : (c : tie.After-known-told invariant-loop decreases-loop) → c.before.place.given.0.0 < allPlaces
+there : (c : tie.After-known-told invariant-loop decreases-loop) → c.before.place.given.0.0 < all_places
 there c =
     let k = c.before.before.before in
     let l = k.before.before.before in
@@ -33,7 +33,7 @@ there c =
     place-there _ _ _ l.loop-test.true f.0 (omega (arith, f.1, l.loop-test.true)) k.of-line.ensures c.before.place.given.1
 
 loop-holds : tie.Need-loop-init invariant-loop decreases-loop
-unfolding leavesPass
+unfolding leaves_pass
 loop-holds c = (omega arith, refl, counted_none _ _ _)
 
 find-requires : tie.Need-find-requires invariant-loop decreases-loop
@@ -83,7 +83,7 @@ loop-again c =
     let f = k.before.before.find.ensures in
     let t = l.loop-test.true in
     let q = c.before.place.given.1 in
-    (omega arith, leaf-turn _ _ _ t f.0 (omega (arith, f.1, t)) k.of-line.ensures q l.before.loop.invariant.1, counted_next _ _ _ t f.0 (omega (arith, f.1, t)) k.of-line.ensures q l.before.loop.invariant.2)
+    (omega arith, leaf_turn _ _ _ t f.0 (omega (arith, f.1, t)) k.of-line.ensures q l.before.loop.invariant.1, counted_next _ _ _ t f.0 (omega (arith, f.1, t)) k.of-line.ensures q l.before.loop.invariant.2)
 
 enum-known-byte : tie.Need-enum-known-byte invariant-loop decreases-loop
 enum-known-byte c = search rules
@@ -94,7 +94,7 @@ add-t25 c =
     let l = k.before.before.before in
     let f = k.before.before.find in
     let p = piece-length l.before.before.before.before.before.before.before.before.args.profile.now l.before.loop.at f.result (omega (arith, f.ensures.0)) (omega (arith, f.ensures.1, l.loop-test.true)) in
-    omega (arith, fails-within _ _ _ k.of-line.ensures c.before.byte.given.1, p)
+    omega (arith, fails_within _ _ _ k.of-line.ensures c.before.byte.given.1, p)
 
 returns : tie.Need-returns invariant-loop decreases-loop
 returns c =
@@ -103,7 +103,7 @@ returns c =
     let f = k.before.before.find.ensures in
     let t = l.loop-test.true in
     record {
-      passes = leaf-turn _ _ _ t f.0 (omega (arith, f.1, t)) k.of-line.ensures c.before.byte.given.1 l.before.loop.invariant.1;
+      passes = leaf_turn _ _ _ t f.0 (omega (arith, f.1, t)) k.of-line.ensures c.before.byte.given.1 l.before.loop.invariant.1;
       parts_are = λ e. not_through e;
     }
 
@@ -111,7 +111,7 @@ returns-2 : tie.Need-returns-2 invariant-loop decreases-loop
 returns-2 c =
     let l = c.before.loop in
     let t = c.loop-test.false in
-    record { passes = leaves-end _ _ _ t l.invariant.1; parts_are = λ e. counted-all _ _ _ t l.invariant.2 }
+    record { passes = leaves_end _ _ _ t l.invariant.1; parts_are = λ e. counted-all _ _ _ t l.invariant.2 }
 
 pub count-lines-spec : {M : Type 1} → statement M
 count-lines-spec =

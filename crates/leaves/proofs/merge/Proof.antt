@@ -2,7 +2,7 @@
 use mathlib.Core.Path.{◌∙◌}
 use native.Mathlib.Omega.{arith}
 use borrow.Author.Rules.{rules}
-use Rattle.leaves.proofs.Records.{merged-ends, merged-past, merged-in, joins}
+use Rattle.leaves.proofs.Records.{merged-ends, merged-past, merged_in, joins}
 use Rattle.leaves.proofs.merge.Statement.{statement}
 use Rattle.leaves.proofs.merge.Tie as tie
 
@@ -53,7 +53,7 @@ returns-3 c =
     let i = c.before.before.before in
     let k = i.before in
     let t = k.before.before.before in
-    merged-in _ _ t.before.before.before.enum_told.given.1 t.before.before.totals-of.ensures t.total.ensures k.total2.ensures i.if1.false c.with-parts.ensures
+    merged_in _ _ t.before.before.before.enum_told.given.1 t.before.before.totals-of.ensures t.total.ensures k.total2.ensures i.if1.false c.with-parts.ensures
 
 pub merge-spec : {M : Type 1} → statement M
 merge-spec =

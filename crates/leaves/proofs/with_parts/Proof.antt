@@ -4,20 +4,20 @@ use Prim.Native.Nat.{◌≤◌, ◌-◌, ◌+◌}
 use native.Mathlib.Omega.{arith}
 use borrow.Author.Rules.{rules}
 use lib.ListN.{get_or}
-use Rattle.book.specs.Limits.{mostRules}
-use Rattle.shares.specs.Shares.{amountAt}
+use Rattle.book.specs.Limits.{most_rules}
+use Rattle.shares.specs.Shares.{amount_at}
 use Rattle.shares.proofs.Tables.{Filled, filled_none, filled_next}
-use Rattle.leaf_totals.specs.Record.{totalAt}
-use Rattle.leaf_totals.proofs.Places.{total-family}
-use Rattle.leaves.proofs.Records.{with-filled}
+use Rattle.leaf_totals.specs.Record.{total_at}
+use Rattle.leaf_totals.proofs.Places.{total_family}
+use Rattle.leaves.proofs.Records.{with_filled}
 use Rattle.leaves.proofs.with_parts.Statement.{statement}
 use Rattle.leaves.proofs.with_parts.Tie as tie
 
 abbrev invariant-loop : tie.invariant-loop
-invariant-loop parts old totals₀ i₀ totals i = (i ≤ mostRules) × Filled (λ k. totalAt old k + amountAt parts k) mostRules i totals
+invariant-loop parts old totals₀ i₀ totals i = (i ≤ most_rules) × Filled (λ k. total_at old k + amount_at parts k) most_rules i totals
 
 abbrev decreases-loop : tie.decreases-loop
-decreases-loop parts old totals₀ i₀ totals i = mostRules - i
+decreases-loop parts old totals₀ i₀ totals i = most_rules - i
 
 loop-holds : tie.Need-loop-init invariant-loop decreases-loop
 loop-holds c = (omega arith, filled_none refl)
@@ -38,7 +38,7 @@ add-totals : tie.Need-overflow-add-totals invariant-loop decreases-loop
 add-totals c =
     let l = c.before.before.before in
     let s = l.before in
-    omega (arith, s.requires.fits l.loop.i (omega arith), total-family s.args.t1 l.loop.i (omega arith))
+    omega (arith, s.requires.fits l.loop.i (omega arith), total_family s.args.t1 l.loop.i (omega arith))
 
 mul-totals-3 : tie.Need-overflow-mul-totals-3 invariant-loop decreases-loop
 mul-totals-3 c = search rules
@@ -56,19 +56,19 @@ loop-again : tie.Need-loop-preserved invariant-loop decreases-loop
 loop-again c =
     let l = c.before.before.before in
     let s = l.before in
-    (omega arith, filled_next (omega arith) (ap (λ x. x + get_or s.args.parts.now l.loop.i 0) (sym (total-family s.args.t1 l.loop.i (omega arith)))) l.loop.invariant.1)
+    (omega arith, filled_next (omega arith) (ap (λ x. x + get_or s.args.parts.now l.loop.i 0) (sym (total_family s.args.t1 l.loop.i (omega arith)))) l.loop.invariant.1)
 
 element-copy-out-t23 : tie.Need-element-copy-out-t23 invariant-loop decreases-loop
 element-copy-out-t23 c = search rules
 
 add-t24 : tie.Need-overflow-add-t24 invariant-loop decreases-loop
-add-t24 c = omega (arith, c.before.before.before.requires.fits mostRules (omega arith))
+add-t24 c = omega (arith, c.before.before.before.requires.fits most_rules (omega arith))
 
 add-t26 : tie.Need-overflow-add-t26 invariant-loop decreases-loop
 add-t26 c = search rules
 
 returns : tie.Need-returns invariant-loop decreases-loop
-returns c = let s = c.before.before.before in with-filled s.args.t1 s.args.parts.now c.before.before.loop.invariant.1 (omega arith)
+returns c = let s = c.before.before.before in with_filled s.args.t1 s.args.parts.now c.before.before.loop.invariant.1 (omega arith)
 
 pub with-parts-spec : {M : Type 1} → statement M
 with-parts-spec =

@@ -6,17 +6,17 @@ use native.Mathlib.Omega.{arith}
 use borrow.Author.Rules.{rules}
 use lib.ListN.{length, drop, length-set}
 use lib.Seq.{sets}
-use Rattle.sets.specs.Table.{rowWords}
-use Rattle.lent.proofs.Storing.{store-more, store-ends, stored_row, no_row, no_words}
+use Rattle.sets.specs.Table.{row_words}
+use Rattle.lent.proofs.Storing.{store_more, store_ends, stored_row_lem, no_row, no_words}
 use Rattle.lent.proofs.store.Statement.{statement}
 use Rattle.lent.proofs.store.Tie as tie
 
 abbrev invariant-loop : tie.invariant-loop
 invariant-loop table₀ n set start i₀ table i =
-    (i ≤ rowWords) × (length table ≡ length table₀) × (sets table₀ (rowWords * n) set ≡ sets table (rowWords * n + i) (drop i set))
+    (i ≤ row_words) × (length table ≡ length table₀) × (sets table₀ (row_words * n) set ≡ sets table (row_words * n + i) (drop i set))
 
 abbrev decreases-loop : tie.decreases-loop
-decreases-loop table₀ n set start i₀ table i = rowWords - i
+decreases-loop table₀ n set start i₀ table i = row_words - i
 
 returns : tie.Need-returns invariant-loop decreases-loop
 returns c = let a = c.before.args in sym (no_row a.table.now a.n a.set.now c.if1.true)
@@ -56,7 +56,7 @@ loop-again c =
     let l = c.before.before in
     let a = l.before.before.before.args in
     let i = l.loop.invariant in
-    (omega arith, rw length-set i.1, i.2 ∙ store-more l.loop.table (rowWords * a.n) a.set.now l.loop.i (search rules))
+    (omega arith, rw length-set i.1, i.2 ∙ store_more l.loop.table (row_words * a.n) a.set.now l.loop.i (search rules))
 
 same_length : tie.Need-same-length invariant-loop decreases-loop
 same_length c = search rules
@@ -65,8 +65,8 @@ returns-3 : tie.Need-returns-3 invariant-loop decreases-loop
 returns-3 c =
     let l = c.before in
     let a = l.before.before.before.args in
-    let e = store-ends l.loop.table (rowWords * a.n + l.loop.i) a.set.now l.loop.i (search rules) in
-    sym (stored_row a.table.now a.n a.set.now l.before.before.if1.false l.before.if2.false ∙ l.loop.invariant.2 ∙ e)
+    let e = store_ends l.loop.table (row_words * a.n + l.loop.i) a.set.now l.loop.i (search rules) in
+    sym (stored_row_lem a.table.now a.n a.set.now l.before.before.if1.false l.before.if2.false ∙ l.loop.invariant.2 ∙ e)
 
 pub store_spec : {M : Type 1} → statement M
 store_spec =

@@ -3,7 +3,7 @@ use Prim.Native.Nat.{◌-◌}
 use native.Mathlib.Omega.{arith}
 use lib.ListN.{length}
 use borrow.Author.Rules.{rules}
-use Rattle.lent.proofs.Zeroing.{Zeroing, zeroing-start, zeroing-next, zeroing-end}
+use Rattle.lent.proofs.Zeroing.{Zeroing, zeroing_start, zeroing_next, zeroing_end}
 use Rattle.lent.proofs.zero16.Statement.{statement}
 use Rattle.lent.proofs.zero16.Tie as tie
 
@@ -14,7 +14,7 @@ abbrev decreases-loop : tie.decreases-loop
 decreases-loop a₀ i₀ a i = length a₀ - i
 
 loop-holds : tie.Need-loop-init invariant-loop decreases-loop
-loop-holds c = zeroing-start _
+loop-holds c = zeroing_start _
 
 mul-numbers : tie.Need-overflow-mul-numbers invariant-loop decreases-loop
 mul-numbers c = search rules
@@ -29,13 +29,13 @@ loop-less : tie.Need-loop-smaller invariant-loop decreases-loop
 loop-less c = omega arith
 
 loop-again : tie.Need-loop-preserved invariant-loop decreases-loop
-loop-again c = zeroing-next c.loop-test.true c.before.loop.invariant
+loop-again c = zeroing_next c.loop-test.true c.before.loop.invariant
 
 same_length : tie.Need-same-length invariant-loop decreases-loop
 same_length c = c.before.loop.invariant.long
 
 returns : tie.Need-returns invariant-loop decreases-loop
-returns c = zeroing-end c.loop-test.false c.before.loop.invariant
+returns c = zeroing_end c.loop-test.false c.before.loop.invariant
 
 pub zero16-spec : {M : Type 1} → statement M
 zero16-spec =

@@ -6,14 +6,14 @@ use borrow.Author.Rules.{rules}
 use lib.ListN.{length, drop}
 use Rattle.lines.specs.declared.Line.{Line}
 use Rattle.lines.specs.declared.Pass.TheVariants.{Through, Ends}
-use Rattle.lines.specs.Lines.{onLine, onPass, lines_of, passOver, lineCheck, checkOf}
-use Rattle.lines.proofs.Lines.{lines_end, line-is, lines-pass}
+use Rattle.lines.specs.Lines.{on_line, on_pass, lines_of, pass_over, line_check, check_of}
+use Rattle.lines.proofs.Lines.{lines_end, line_is, lines_pass_lem}
 use Rattle.lines.proofs.check.Statement.{statement}
 use Rattle.lines.proofs.check.Tie as tie
 
 abbrev invariant-loop : tie.invariant-loop
 invariant-loop profile at₀ at =
-    (at ≤ length profile + 1) × (passOver lineCheck at (lines_of (drop at profile)) ≡ checkOf profile)
+    (at ≤ length profile + 1) × (pass_over line_check at (lines_of (drop at profile)) ≡ check_of profile)
 
 abbrev decreases-loop : tie.decreases-loop
 decreases-loop profile at₀ at = length profile - at
@@ -23,16 +23,16 @@ turn : (k : tie.After-read-line invariant-loop decreases-loop) (q : Line) → k.
     let l = k.before.before.before.before.loop in
     let s = k.before.before.before.before.before.before.args.profile.now in
     let end = k.before.before.find.result in
-    onPass (onLine q (λ stack count. Through) (Ends l.at)) (passOver lineCheck (end + 1) (lines_of (drop (end + 1) s))) ≡ checkOf s
-unfolding lineCheck
+    on_pass (on_line q (λ stack count. Through) (Ends l.at)) (pass_over line_check (end + 1) (lines_of (drop (end + 1) s))) ≡ check_of s
+unfolding line_check
 turn k q e =
     let l = k.before.before.before.before.loop in
     let f = k.before.before.find.ensures in
     let t = k.before.before.before.loop-test.true in
-    rw (line-is _ k.read-line.ensures e).1 at (sym (lines-pass lineCheck _ l.at _ t f.0 (omega (arith, t, f.1))) ∙ l.invariant.1)
+    rw (line_is _ k.read-line.ensures e).1 at (sym (lines_pass_lem line_check _ l.at _ t f.0 (omega (arith, t, f.1))) ∙ l.invariant.1)
 
 loop-holds : tie.Need-loop-init invariant-loop decreases-loop
-unfolding checkOf
+unfolding check_of
 loop-holds c = search rules
 
 find-requires : tie.Need-find-requires invariant-loop decreases-loop

@@ -5,7 +5,7 @@ use native.Mathlib.Omega.{arith}
 use borrow.Author.Rules.{rules}
 use lib.ListN.{length, drop}
 use Rattle.lines.specs.Lines.{up_to}
-use Rattle.lines.proofs.Lines.{up-here, up_more, up-end}
+use Rattle.lines.proofs.Lines.{up_here, up_more, up_end}
 use Rattle.lines.proofs.find.Statement.{statement}
 use Rattle.lines.proofs.find.Tie as tie
 
@@ -23,7 +23,7 @@ shared-slice-read-if1 : tie.Need-shared-slice-read-if1 invariant-loop decreases-
 shared-slice-read-if1 c = search rules
 
 returns : tie.Need-returns invariant-loop decreases-loop
-returns c = let a = c.before.before.before.before.args in omega (arith, up-here a.mark a.text.now _ c.before.before.loop-test.true c.if1.true)
+returns c = let a = c.before.before.before.before.args in omega (arith, up_here a.mark a.text.now _ c.before.before.loop-test.true c.if1.true)
 
 add_at : tie.Need-overflow-add-at invariant-loop decreases-loop
 add_at c = search rules
@@ -35,7 +35,7 @@ loop-again : tie.Need-loop-preserved invariant-loop decreases-loop
 loop-again c = let a = c.before.before.before.before.args in omega (arith, up_more a.mark a.text.now _ c.before.before.loop-test.true c.if1.false)
 
 returns-2 : tie.Need-returns-2 invariant-loop decreases-loop
-returns-2 c = let a = c.before.before.args in omega (arith, up-end a.mark a.text.now _ c.loop-test.false)
+returns-2 c = let a = c.before.before.args in omega (arith, up_end a.mark a.text.now _ c.loop-test.false)
 
 pub find_spec : {M : Type 1} → statement M
 find_spec =

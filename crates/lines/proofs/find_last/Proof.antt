@@ -6,14 +6,14 @@ use native.Mathlib.Omega.{arith}
 use borrow.Author.Tests.{eq-eqb, ne_eqb}
 use borrow.Author.Rules.{rules}
 use lib.ListN.{length, drop}
-use Rattle.lines.specs.Lines.{lastFrom, last_of}
+use Rattle.lines.specs.Lines.{last_from, last_of}
 use Rattle.lines.proofs.Lines.{last_more, last_end}
 use Rattle.lines.proofs.find_last.Statement.{statement}
 use Rattle.lines.proofs.find_last.Tie as tie
 
 abbrev invariant-loop : tie.invariant-loop
 invariant-loop text mark last₀ at₀ last at =
-    (at ≤ length text) × (last ≤ length text) × (lastFrom mark at last (drop at text) ≡ last_of mark text)
+    (at ≤ length text) × (last ≤ length text) × (last_from mark at last (drop at text) ≡ last_of mark text)
 
 abbrev decreases-loop : tie.decreases-loop
 decreases-loop text mark last₀ at₀ last at = length text - at

@@ -8,14 +8,14 @@ use borrow.Author.Rules.{rules}
 use lib.Dec.{eqb}
 use lib.ListN.{length, get_or, drop}
 use Rattle.lines.specs.declared.Count.TheVariants.{Is, Not}
-use Rattle.lines.specs.Lines.{mostCount, numberFrom, limited, count_of}
-use Rattle.lines.proofs.Lines.{number-end, number-low, number-high, number_more, over}
+use Rattle.lines.specs.Lines.{most_count, number_from, limited, count_of}
+use Rattle.lines.proofs.Lines.{number_end, number_low, number_high, number_more, over}
 use Rattle.lines.proofs.read_count.Statement.{statement}
 use Rattle.lines.proofs.read_count.Tie as tie
 
 abbrev invariant-loop : tie.invariant-loop
 invariant-loop digits value₀ at₀ value at =
-    (at ≤ length digits) × (value ≤ mostCount) × (limited (numberFrom value (drop at digits)) ≡ count_of digits)
+    (at ≤ length digits) × (value ≤ most_count) × (limited (number_from value (drop at digits)) ≡ count_of digits)
 
 abbrev decreases-loop : tie.decreases-loop
 decreases-loop digits value₀ at₀ value at = length digits - at
@@ -23,7 +23,7 @@ decreases-loop digits value₀ at₀ value at = length digits - at
 -- 1 to 10 bytes
 judged : (c : tie.Else2 invariant-loop decreases-loop) →
     let s = c.before.before.before.args.digits.now in
-    count_of s ≡ cond (eqb (get_or s 0 0) 48) (cond (eqb (length s) 1) (Is 0) Not) (limited (numberFrom 0 s))
+    count_of s ≡ cond (eqb (get_or s 0 0) 48) (cond (eqb (length s) 1) (Is 0) Not) (limited (number_from 0 s))
 unfolding count_of
 judged c = simp (ne_eqb _ _ c.before.if1.false, le-ltb 10 _ c.if2.false)
 
@@ -31,7 +31,7 @@ judged c = simp (ne_eqb _ _ c.before.if1.false, le-ltb 10 _ c.if2.false)
 turn : (c : tie.After-digit invariant-loop decreases-loop) →
     let l = c.before.before.before.before.before.loop in
     let s = c.before.before.before.before.before.before.before.before.before.before.before.args.digits.now in
-    limited (numberFrom (10 * l.value + c.digit.result) (drop (l.at + 1) s)) ≡ count_of s
+    limited (number_from (10 * l.value + c.digit.result) (drop (l.at + 1) s)) ≡ count_of s
 turn c =
     let l = c.before.before.before.before.before.loop in
     rw c.digit.ensures.0
@@ -66,12 +66,12 @@ shared-slice-read-byte c = search rules
 returns-5 : tie.Need-returns-5 invariant-loop decreases-loop
 returns-5 c =
     let l = c.before.before.before.loop in
-    sym (ap limited (number-low _ _ l.value c.before.before.loop-test.true c.if5.true)) ∙ l.invariant.2
+    sym (ap limited (number_low _ _ l.value c.before.before.loop-test.true c.if5.true)) ∙ l.invariant.2
 
 returns-6 : tie.Need-returns-6 invariant-loop decreases-loop
 returns-6 c =
     let l = c.before.before.before.before.loop in
-    sym (ap limited (number-high _ _ l.value c.before.before.before.loop-test.true c.before.if5.false c.if6.true)) ∙ l.invariant.2
+    sym (ap limited (number_high _ _ l.value c.before.before.before.loop-test.true c.before.if5.false c.if6.true)) ∙ l.invariant.2
 
 digit-requires : tie.Need-digit-requires invariant-loop decreases-loop
 digit-requires c κs = search rules
@@ -99,7 +99,7 @@ loop-again : tie.Need-loop-preserved invariant-loop decreases-loop
 loop-again c = (omega arith, omega arith, turn c.before)
 
 returns-8 : tie.Need-returns-8 invariant-loop decreases-loop
-returns-8 c = let l = c.before.loop in rw (number-end _ _ _ c.loop-test.false, le-ltb _ _ l.invariant.1) at l.invariant.2
+returns-8 c = let l = c.before.loop in rw (number_end _ _ _ c.loop-test.false, le-ltb _ _ l.invariant.1) at l.invariant.2
 
 pub read-count-spec : {M : Type 1} → statement M
 read-count-spec =

@@ -3,7 +3,7 @@ use native.Mathlib.Omega.{arith}
 use borrow.Author.Rules.{rules}
 use Rattle.lent.specs.Lent.{five}
 use Rattle.output.proofs.Room.{whole-refused, whole-accepted}
-use Rattle.lister.specs.Listing.{searchLines}
+use Rattle.lister.specs.Listing.{search_lines}
 use Rattle.lister.proofs.put_answer.Statement.{statement}
 use Rattle.lister.proofs.put_answer.Tie as tie
 
@@ -51,7 +51,7 @@ returns c =
     let tables = five t.1.0 t.1.1.0 t.1.1.1.0 t.1.1.1.1.0 t.1.1.1.1.1.0 in
     let (end, lines) =
     whole-refused
-    (λ rows. searchLines tables rows a.args.text.now)
+    (λ rows. search_lines tables rows a.args.text.now)
     (omega (arith, a.requires))
     i.number.ensures
     v.value.ensures
@@ -101,7 +101,7 @@ returns-2 c =
     let tables = five t.1.0 t.1.1.0 t.1.1.1.0 t.1.1.1.1.0 t.1.1.1.1.1.0 in
     let (end, lines) =
     whole-accepted
-    (λ rows. searchLines tables rows a.args.text.now)
+    (λ rows. search_lines tables rows a.args.text.now)
     a.requires
     i.number.ensures
     v.value.ensures

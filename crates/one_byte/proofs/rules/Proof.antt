@@ -5,32 +5,32 @@ use native.Mathlib.Nat.{zero-add}
 use native.Mathlib.Omega.{arith}
 use borrow.Author.Rules.{rules}
 use lib.ListN.{length, get_or, replicate, get_or-eq_default}
-use Rattle.sets.specs.Sets.{setOf}
-use Rattle.sets.specs.Table.{rowWords, rulesAt}
+use Rattle.sets.specs.Sets.{set_of}
+use Rattle.sets.specs.Table.{row_words, rules_at}
 use Rattle.sets.proofs.Table.{rules-words, rules-none}
-use Rattle.sets.proofs.Writing.{Writing, writing_start, writing-next}
+use Rattle.sets.proofs.Writing.{Writing, writing_start, writing_next}
 use Rattle.one_byte.proofs.rules.Statement.{statement}
 use Rattle.one_byte.proofs.rules.Tie as tie
 
 abbrev invariant-loop : tie.invariant-loop
-invariant-loop out row set₀ start i₀ set i = (i ≤ rowWords) × Writing (λ j. get_or out (rowWords * row + j) 0) (replicate rowWords 0) 0 i set
+invariant-loop out row set₀ start i₀ set i = (i ≤ row_words) × Writing (λ j. get_or out (row_words * row + j) 0) (replicate row_words 0) 0 i set
 
 abbrev decreases-loop : tie.decreases-loop
-decreases-loop out row set₀ start i₀ set i = rowWords - i
+decreases-loop out row set₀ start i₀ set i = row_words - i
 
 none-requires : tie.Need-none-requires invariant-loop decreases-loop
 none-requires c κs = search rules
 
-past : {n : ℕ} (row j : ℕ) → n ≤ row → n ≤ rowWords * row + j
+past : {n : ℕ} (row j : ℕ) → n ≤ row → n ≤ row_words * row + j
 past row j h = omega arith
 
 returns : tie.Need-returns invariant-loop decreases-loop
-unfolding setOf
+unfolding set_of
 returns c =
     let a = c.before.before.before.args in
     let e = c.before.none.ensures.0 in
-    let none : rulesAt a.out.now a.row ≡ 0 = rules-none a.out.now a.row (λ j h. get_or-eq_default a.out.now 0 (past a.row j c.if1.true)) in
-    (ap setOf e ∙ sym none, ap length e)
+    let none : rules_at a.out.now a.row ≡ 0 = rules-none a.out.now a.row (λ j h. get_or-eq_default a.out.now 0 (past a.row j c.if1.true)) in
+    (ap set_of e ∙ sym none, ap length e)
 
 mul-start : tie.Need-overflow-mul-start invariant-loop decreases-loop
 mul-start c = search rules
@@ -59,14 +59,14 @@ loop-less c = search rules
 loop-again : tie.Need-loop-preserved invariant-loop decreases-loop
 loop-again c =
     let l = c.before.before in
-    (omega arith, writing-next (omega arith) (omega arith) c.word.ensures l.loop.invariant.1)
+    (omega arith, writing_next (omega arith) (omega arith) c.word.ensures l.loop.invariant.1)
 
 returns-2 : tie.Need-returns-2 invariant-loop decreases-loop
 returns-2 c =
     let l = c.before in
     let a = l.before.before.before.before.args in
     let w = l.loop.invariant.1 in
-    let all : l.loop.i ≡ rowWords = omega arith in
+    let all : l.loop.i ≡ row_words = omega arith in
     (sym (rules-words a.out.now a.row l.loop.set (omega (arith, w.long)) (λ j h. sym (rw zero-add at (w.done j (omega arith))))), w.long)
 
 pub rules-spec : {M : Type 1} → statement M

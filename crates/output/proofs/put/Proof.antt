@@ -7,7 +7,7 @@ use native.Mathlib.Omega.{arith}
 use borrow.Author.Rules.{rules}
 use lib.ListN.{length, drop, get_or, length-set, drop_of_length-le}
 use lib.Seq.{sets, drop-cons}
-use Rattle.output.proofs.Laws.{sets-past}
+use Rattle.output.proofs.Laws.{sets_past}
 use Rattle.output.proofs.put.Statement.{statement}
 use Rattle.output.proofs.put.Tie as tie
 
@@ -58,7 +58,7 @@ same-length-2 c = search rules
 returns-2 : tie.Need-returns-2 invariant-loop decreases-loop
 returns-2 c =
     let k = c.before.before.loop in
-    record { filled = sym (sets-past (drop k.i c.before.before.before.args.bytes.now) k.out k.to (omega arith)) ∙ k.invariant.4; behind = omega arith }
+    record { filled = sym (sets_past (drop k.i c.before.before.before.args.bytes.now) k.out k.to (omega arith)) ∙ k.invariant.4; behind = omega arith }
 
 pub put_spec : {M : Type 1} → statement M
 put_spec =

@@ -2,7 +2,7 @@
 use native.Mathlib.Omega.{arith}
 use borrow.Author.Rules.{rules}
 use borrow.Author.Tests.{eq-eqb, ne_eqb}
-use Rattle.output.proofs.Laws.{puts-append}
+use Rattle.output.proofs.Laws.{puts_append}
 use Rattle.output.proofs.put_built.Statement.{statement}
 use Rattle.output.proofs.put_built.Tie as tie
 
@@ -38,7 +38,7 @@ returns-2 c =
     let line = c.before.before in
     let rows = line.before.before.before.before.before in
     let word = rows.before.before.before.before in
-    rw (eq-eqb word.before.before.before.before.before.args.number 0 (omega arith)) (puts-append (puts-append word.put.ensures rows.put-number.ensures) line.put2.ensures)
+    rw (eq-eqb word.before.before.before.before.before.args.number 0 (omega arith)) (puts_append (puts_append word.put.ensures rows.put-number.ensures) line.put2.ensures)
 
 pub put-built-spec : {M : Type 1} → statement M
 put-built-spec =

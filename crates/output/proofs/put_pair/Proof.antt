@@ -1,6 +1,6 @@
 -- `put_pair` meets its contract: each part is put behind the one before it. Assumes nothing.
 use borrow.Author.Rules.{rules}
-use Rattle.output.proofs.Laws.{puts-append}
+use Rattle.output.proofs.Laws.{puts_append}
 use Rattle.output.proofs.put_pair.Statement.{statement}
 use Rattle.output.proofs.put_pair.Tie as tie
 
@@ -32,8 +32,8 @@ returns c =
     let second = b.before.before.before.before in
     let a = second.before.before.before.before in
     let first = a.before.before.before.before in
-    puts-append
-    (puts-append (puts-append (puts-append first.put.ensures a.put-number.ensures) second.put2.ensures) b.put-number2.ensures)
+    puts_append
+    (puts_append (puts_append (puts_append first.put.ensures a.put-number.ensures) second.put2.ensures) b.put-number2.ensures)
     line.put3.ensures
 
 pub put-pair-spec : {M : Type 1} → statement M

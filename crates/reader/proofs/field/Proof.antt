@@ -7,8 +7,8 @@ use Rattle.format.specs.Format.{part, field_of}
 use Rattle.reader.specs.Leaves.{Shows}
 use Rattle.format.specs.declared.Head.TheVariants.{Short, Unknown, Picture, Rule}
 use Rattle.format.proofs.Judged.{picture-sound, rule-sound}
-use Rattle.format.proofs.Fields.{Within, head-within, field-headed}
-use Rattle.reader.proofs.Steps.{picture-taken, picture-stopped, rule-taken, rule-stopped}
+use Rattle.format.proofs.Fields.{Within, head_within, field_headed}
+use Rattle.reader.proofs.Steps.{picture-taken, picture_stopped, rule-taken, rule_stopped}
 use Rattle.reader.proofs.field.Statement.{statement}
 use Rattle.reader.proofs.field.Tie as tie
 
@@ -25,7 +25,7 @@ enum-known-start : tie.Need-enum-known-start
 enum-known-start c = search rules
 
 picture-within : (c : tie.After-take-picture-arg) → Within (length c.before.before.before.before.before.before.args.bytes.now) c.before.before.before.before.before.before.args.at (Picture c.before.before.start.given.0.0 c.before.before.start.given.0.1.0)
-picture-within c = head-within _ _ _ c.before.before.before.before.head_at.ensures c.before.before.start.given.1
+picture-within c = head_within _ _ _ c.before.before.before.before.head_at.ensures c.before.before.start.given.1
 
 sub-take-picture : tie.Need-overflow-sub-take-picture
 sub-take-picture c =
@@ -61,7 +61,7 @@ enum-known-start-2 : tie.Need-enum-known-start-2
 enum-known-start-2 c = search rules
 
 rule-within : (c : tie.After-take-rule-arg2) → Within (length c.before.before.before.before.before.before.before.args.bytes.now) c.before.before.before.before.before.before.before.args.at (Rule c.before.before.before.start2.given.0.0 c.before.before.before.start2.given.0.1.0)
-rule-within c = head-within _ _ _ c.before.before.before.before.before.head_at.ensures c.before.before.before.start2.given.1
+rule-within c = head_within _ _ _ c.before.before.before.before.before.head_at.ensures c.before.before.before.start2.given.1
 
 sub-take-rule : tie.Need-overflow-sub-take-rule
 sub-take-rule c =
@@ -100,14 +100,14 @@ unfolding field_of
 returns c = λ a q.
     let k = c.before.before in
     let g = k.before.before.args in
-    rw (field-headed g.bytes.now g.at Short k.head_at.ensures c.enum_told.given.1 a) refl
+    rw (field_headed g.bytes.now g.at Short k.head_at.ensures c.enum_told.given.1 a) refl
 
 returns-2 : tie.Need-returns-2
 unfolding field_of
 returns-2 c = λ a q.
     let k = c.before.before in
     let g = k.before.before.args in
-    rw (field-headed g.bytes.now g.at Unknown k.head_at.ensures c.enum-told2.given.1 a) refl
+    rw (field_headed g.bytes.now g.at Unknown k.head_at.ensures c.enum-told2.given.1 a) refl
 
 returns-3 : tie.Need-returns-3
 unfolding field_of
@@ -117,7 +117,7 @@ returns-3 c = λ a q.
     let k = m.before.before in
     let g = k.before.before.args in
     let v = m.start.given in
-    subst (Shows _ _ _ _) (sym (field-headed g.bytes.now g.at (Picture v.0.0 v.0.1.0) k.head_at.ensures v.1 a))
+    subst (Shows _ _ _ _) (sym (field_headed g.bytes.now g.at (Picture v.0.0 v.0.1.0) k.head_at.ensures v.1 a))
     (picture-taken a q g.at v.0.1.0 (part g.bytes.now v.0.0 v.0.1.0) t.ensures.0 c.enum-told3.given.1 t.ensures.1)
 
 returns-4 : tie.Need-returns-4
@@ -128,8 +128,8 @@ returns-4 c = λ a q.
     let k = m.before.before in
     let g = k.before.before.args in
     let v = m.start.given in
-    rw (field-headed g.bytes.now g.at (Picture v.0.0 v.0.1.0) k.head_at.ensures v.1 a
-    ∙ picture-stopped a q g.at v.0.1.0 (part g.bytes.now v.0.0 v.0.1.0) t.ensures.0 c.before.why.given.1) refl
+    rw (field_headed g.bytes.now g.at (Picture v.0.0 v.0.1.0) k.head_at.ensures v.1 a
+    ∙ picture_stopped a q g.at v.0.1.0 (part g.bytes.now v.0.0 v.0.1.0) t.ensures.0 c.before.why.given.1) refl
 
 returns-5 : tie.Need-returns-5
 unfolding field_of
@@ -139,7 +139,7 @@ returns-5 c = λ a q.
     let k = m.before.before in
     let g = k.before.before.args in
     let v = m.start2.given in
-    subst (Shows _ _ _ _) (sym (field-headed g.bytes.now g.at (Rule v.0.0 v.0.1.0) k.head_at.ensures v.1 a))
+    subst (Shows _ _ _ _) (sym (field_headed g.bytes.now g.at (Rule v.0.0 v.0.1.0) k.head_at.ensures v.1 a))
     (rule-taken a q g.at v.0.1.0 (part g.bytes.now v.0.0 v.0.1.0) t.ensures.0 c.enum-told4.given.1 t.ensures.1.0 t.ensures.1.1)
 
 returns-6 : tie.Need-returns-6
@@ -150,8 +150,8 @@ returns-6 c = λ a q.
     let k = m.before.before in
     let g = k.before.before.args in
     let v = m.start2.given in
-    rw (field-headed g.bytes.now g.at (Rule v.0.0 v.0.1.0) k.head_at.ensures v.1 a
-    ∙ rule-stopped a q g.at v.0.1.0 (part g.bytes.now v.0.0 v.0.1.0) t.ensures.0 c.before.why2.given.1) refl
+    rw (field_headed g.bytes.now g.at (Rule v.0.0 v.0.1.0) k.head_at.ensures v.1 a
+    ∙ rule_stopped a q g.at v.0.1.0 (part g.bytes.now v.0.0 v.0.1.0) t.ensures.0 c.before.why2.given.1) refl
 
 pub field-spec : {M : Type 1} → statement M
 field-spec =

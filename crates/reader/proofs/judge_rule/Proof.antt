@@ -1,7 +1,7 @@
 -- `reader::judge_rule` meets its contract: each return by the tests that led there. Assumes nothing.
 use mathlib.Core.Path.{◌∙◌}
 use borrow.Author.Rules.{rules}
-use Rattle.format.proofs.Judged.{rule-many, rule-long, rule-empty, rule-odd, rule-judged}
+use Rattle.format.proofs.Judged.{rule-many, rule-long, rule-empty, rule_odd, rule-judged}
 use Rattle.reader.proofs.judge_rule.Statement.{statement}
 use Rattle.reader.proofs.judge_rule.Tie as tie
 
@@ -18,7 +18,7 @@ returns-3 : tie.Need-returns-3
 returns-3 c = rule-empty _ _ _ _ (search rules) (search rules) (search rules)
 
 returns-4 : tie.Need-returns-4
-returns-4 c = rule-odd _ _ _ _ (search rules) (search rules) (search rules) (search rules)
+returns-4 c = rule_odd _ _ _ _ (search rules) (search rules) (search rules) (search rules)
 
 add-judge-symbols : tie.Need-overflow-add-judge-symbols
 add-judge-symbols c = search rules

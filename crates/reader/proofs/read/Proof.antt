@@ -1,6 +1,6 @@
 -- `reader::read` meets its contract: the record is put together from what the fields left, or is the empty one. Assumes nothing.
 use borrow.Author.Rules.{rules}
-use Rattle.reader.proofs.Readings.{blank-holds, accepted-read, refused-read}
+use Rattle.reader.proofs.Readings.{blank_holds, accepted-read, refused-read}
 use Rattle.reader.proofs.read.Statement.{statement}
 use Rattle.reader.proofs.read.Tie as tie
 
@@ -8,7 +8,7 @@ empty-requires : tie.Need-empty-requires
 empty-requires c κs = search rules
 
 take-all-requires : tie.Need-take-all-requires
-take-all-requires c κs = blank-holds c.before.before.before.before.before.before.empty.ensures.0
+take-all-requires c κs = blank_holds c.before.before.before.before.before.before.empty.ensures.0
 
 enum-known-pictures : tie.Need-enum-known-pictures
 enum-known-pictures c = search rules

@@ -4,7 +4,7 @@ use mathlib.Core.Path.{refl}
 use native.Mathlib.Omega.{arith}
 use borrow.Author.Rules.{rules}
 use lib.ListN.{length}
-use Rattle.reader.proofs.Readings.{Reading, starts, turns, halts, no-rule, some-rule}
+use Rattle.reader.proofs.Readings.{Reading, starts, turns, halts, no_rule, some-rule}
 use Rattle.reader.proofs.take_all.Statement.{statement}
 use Rattle.reader.proofs.take_all.Tie as tie
 
@@ -54,7 +54,7 @@ returns c =
 returns-2 : tie.Need-returns-2 invariant-loop decreases-loop
 returns-2 c =
     let l = c.before.before in
-    no-rule l.before.before.args.bytes.now l.loop.at l.loop.invariant (search rules) c.if1.true
+    no_rule l.before.before.args.bytes.now l.loop.at l.loop.invariant (search rules) c.if1.true
 
 returns-3 : tie.Need-returns-3 invariant-loop decreases-loop
 returns-3 c =

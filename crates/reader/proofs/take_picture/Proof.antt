@@ -2,7 +2,7 @@
 use mathlib.Core.Path.{refl, sym, ◌∙◌}
 use borrow.Author.Tests.{not-true, not-false}
 use borrow.Author.Rules.{rules}
-use Rattle.format.proofs.Judged.{picture-many, picture-body, picture-fine}
+use Rattle.format.proofs.Judged.{picture-many, picture-body, picture_fine}
 use Rattle.reader.proofs.take_picture.Statement.{statement}
 use Rattle.reader.proofs.take_picture.Tie as tie
 
@@ -21,7 +21,7 @@ add-picture-requires c κs = search rules
 
 returns-3 : tie.Need-returns-3
 returns-3 c =
-    (picture-fine _ _ _ (search rules) (sym c.before.before.before.is-ascending.ensures ∙ not-false _ c.before.before.if2.false), c.add-picture.ensures)
+    (picture_fine _ _ _ (search rules) (sym c.before.before.before.is-ascending.ensures ∙ not-false _ c.before.before.if2.false), c.add-picture.ensures)
 
 pub take-picture-spec : {M : Type 1} → statement M
 take-picture-spec =

@@ -2,19 +2,19 @@
 use mathlib.Core.Path.{◌≡◌}
 use Prim.Native.Nat.{◌≤◌, ◌+◌, ◌-◌}
 use native.Mathlib.Omega.{arith}
-use Rattle.shares.specs.Below.{sumBelow}
-use Rattle.shares.specs.Shares.{allPlaces, floorOf, amountAt}
+use Rattle.shares.specs.Below.{sum_below}
+use Rattle.shares.specs.Shares.{all_places, floor_of, amount_at}
 use Rattle.shares.proofs.Steps.{take_none, take_next, take-fits, take_all}
-use Rattle.shares.proofs.Wholes.{total-most, floors-at}
+use Rattle.shares.proofs.Wholes.{total-most, floors_at}
 use borrow.Author.Rules.{rules}
 use Rattle.shares.proofs.count_missing.Statement.{statement}
 use Rattle.shares.proofs.count_missing.Tie as tie
 
 abbrev invariant-loop : tie.invariant-loop
-invariant-loop totals whole left₀ i₀ left i = (i ≤ allPlaces) × (left + sumBelow (λ k. floorOf whole (amountAt totals k)) i ≡ 1000)
+invariant-loop totals whole left₀ i₀ left i = (i ≤ all_places) × (left + sum_below (λ k. floor_of whole (amount_at totals k)) i ≡ 1000)
 
 abbrev decreases-loop : tie.decreases-loop
-decreases-loop totals whole left₀ i₀ left i = allPlaces - i
+decreases-loop totals whole left₀ i₀ left i = all_places - i
 
 loop-holds : tie.Need-loop-init invariant-loop decreases-loop
 loop-holds c = (omega arith, take_none _ 1000)
@@ -33,7 +33,7 @@ floor-requires c κs =
 sub-left : tie.Need-overflow-sub-left invariant-loop decreases-loop
 sub-left c =
     let l = c.before.before.before in
-    take-fits _ l.loop.invariant.1 c.floor.ensures (floors-at l.before.requires (l.loop.i + 1) (omega arith))
+    take-fits _ l.loop.invariant.1 c.floor.ensures (floors_at l.before.requires (l.loop.i + 1) (omega arith))
 
 add-i : tie.Need-overflow-add-i invariant-loop decreases-loop
 add-i c = search rules

@@ -1,8 +1,8 @@
 -- `shares::part` meets its contract. Assumes nothing.
 use Prim.Native.Nat.{◌≤◌}
 use native.Mathlib.Omega.{arith}
-use Rattle.shares.specs.Shares.{allPlaces, amountAt}
-use Rattle.shares.proofs.Laws.{share-more, share-down}
+use Rattle.shares.specs.Shares.{all_places, amount_at}
+use Rattle.shares.proofs.Laws.{share-more, share_down}
 use Rattle.shares.proofs.Wholes.{total-most, floor-most}
 use borrow.Author.Rules.{rules}
 use Rattle.shares.proofs.part.Statement.{statement}
@@ -35,7 +35,7 @@ cast-result c = omega (arith, small c.before)
 returns : tie.Need-returns
 returns c =
     let a = c.before.before.before.before in
-    share-more (amountAt a.args.totals.now) allPlaces a.args.whole a.args.i c.before.before.floor.ensures c.before.count-before.ensures a.requires.1 c.if1.true
+    share-more (amount_at a.args.totals.now) all_places a.args.whole a.args.i c.before.before.floor.ensures c.before.count-before.ensures a.requires.1 c.if1.true
 
 cast-result-2 : tie.Need-overflow-cast-result-2
 cast-result-2 c = omega (arith, small c.before)
@@ -43,7 +43,7 @@ cast-result-2 c = omega (arith, small c.before)
 returns-2 : tie.Need-returns-2
 returns-2 c =
     let a = c.before.before.before.before in
-    share-down (amountAt a.args.totals.now) allPlaces a.args.whole a.args.i c.before.before.floor.ensures c.before.count-before.ensures a.requires.1 c.if1.false
+    share_down (amount_at a.args.totals.now) all_places a.args.whole a.args.i c.before.before.floor.ensures c.before.count-before.ensures a.requires.1 c.if1.false
 
 pub part-spec : {M : Type 1} → statement M
 part-spec =

@@ -1,6 +1,6 @@
 -- `shares::share` meets its contract. Assumes nothing.
 use native.Mathlib.Omega.{arith}
-use Rattle.shares.proofs.Cases.{is-past, is-nothing, is_shared}
+use Rattle.shares.proofs.Cases.{is_past, is_nothing, is_shared}
 use borrow.Author.Rules.{rules}
 use Rattle.shares.proofs.share.Statement.{statement}
 use Rattle.shares.proofs.share.Tie as tie
@@ -9,10 +9,10 @@ total-requires : tie.Need-total-requires
 total-requires c κs = search rules
 
 returns : tie.Need-returns
-returns c = is-past c.before.before.args.totals.now (omega arith)
+returns c = is_past c.before.before.args.totals.now (omega arith)
 
 returns-2 : tie.Need-returns-2
-returns-2 c = is-nothing c.before.before.before.args.totals.now (omega arith)
+returns-2 c = is_nothing c.before.before.before.args.totals.now (omega arith)
 
 share-out-requires : tie.Need-share-out-requires
 share-out-requires c κs = search rules

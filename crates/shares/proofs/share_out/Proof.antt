@@ -2,17 +2,17 @@
 use mathlib.Core.Path.{refl}
 use Prim.Native.Nat.{◌≤◌, ◌-◌}
 use native.Mathlib.Omega.{arith}
-use Rattle.shares.specs.Shares.{allPlaces, amountAt, shareIn}
+use Rattle.shares.specs.Shares.{all_places, amount_at, share_in}
 use Rattle.shares.proofs.Tables.{Filled, filled_none, filled_next, filled-all}
 use borrow.Author.Rules.{rules}
 use Rattle.shares.proofs.share_out.Statement.{statement}
 use Rattle.shares.proofs.share_out.Tie as tie
 
 abbrev invariant-loop : tie.invariant-loop
-invariant-loop totals whole lacking parts₀ i₀ parts i = (i ≤ allPlaces) × Filled (shareIn (amountAt totals) allPlaces whole) allPlaces i parts
+invariant-loop totals whole lacking parts₀ i₀ parts i = (i ≤ all_places) × Filled (share_in (amount_at totals) all_places whole) all_places i parts
 
 abbrev decreases-loop : tie.decreases-loop
-decreases-loop totals whole lacking parts₀ i₀ parts i = allPlaces - i
+decreases-loop totals whole lacking parts₀ i₀ parts i = all_places - i
 
 count-missing-requires : tie.Need-count-missing-requires invariant-loop decreases-loop
 count-missing-requires c κs = search rules

@@ -2,22 +2,22 @@
 use mathlib.Core.Path.{◌≡◌, refl, sym}
 use Prim.Native.Nat.{◌≤◌, ◌-◌}
 use native.Mathlib.Omega.{arith}
-use Rattle.shares.specs.Below.{sumBelow}
-use Rattle.shares.specs.Shares.{allPlaces, limit, amountAt}
-use Rattle.shares.proofs.Below.{sum-none}
-use Rattle.shares.proofs.Steps.{add-next, capped, uncapped}
+use Rattle.shares.specs.Below.{sum_below}
+use Rattle.shares.specs.Shares.{all_places, limit, amount_at}
+use Rattle.shares.proofs.Below.{sum_none}
+use Rattle.shares.proofs.Steps.{add_next, capped, uncapped}
 use borrow.Author.Rules.{rules}
 use Rattle.shares.proofs.total.Statement.{statement}
 use Rattle.shares.proofs.total.Tie as tie
 
 abbrev invariant-loop : tie.invariant-loop
-invariant-loop totals s₀ i₀ s i = (i ≤ allPlaces) × (s ≡ sumBelow (amountAt totals) i) × (s ≤ limit)
+invariant-loop totals s₀ i₀ s i = (i ≤ all_places) × (s ≡ sum_below (amount_at totals) i) × (s ≤ limit)
 
 abbrev decreases-loop : tie.decreases-loop
-decreases-loop totals s₀ i₀ s i = allPlaces - i
+decreases-loop totals s₀ i₀ s i = all_places - i
 
 loop-holds : tie.Need-loop-init invariant-loop decreases-loop
-loop-holds c = (omega arith, sym (sum-none _), omega arith)
+loop-holds c = (omega arith, sym (sum_none _), omega arith)
 
 mul-t : tie.Need-overflow-mul-t invariant-loop decreases-loop
 mul-t c = search rules
@@ -46,7 +46,7 @@ loop-less : tie.Need-loop-smaller invariant-loop decreases-loop
 loop-less c = search rules
 
 loop-again : tie.Need-loop-preserved invariant-loop decreases-loop
-loop-again c = (omega arith, add-next _ c.before.before.before.loop.invariant.1 refl, omega arith)
+loop-again c = (omega arith, add_next _ c.before.before.before.loop.invariant.1 refl, omega arith)
 
 returns-2 : tie.Need-returns-2 invariant-loop decreases-loop
 returns-2 c = uncapped c.before.before.args.totals.now c.before.loop.invariant.1 c.before.loop.invariant.2 (omega arith)

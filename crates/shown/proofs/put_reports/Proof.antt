@@ -4,19 +4,19 @@ use mathlib.Core.Path.{◌≡◌, refl}
 use native.Mathlib.Omega.{arith}
 use borrow.Author.Rules.{rules}
 use lib.ListN.{length, drop}
-use Rattle.shown.specs.Shown.{reportLines}
-use Rattle.shown.proofs.Laws.{Front, front-none, front-next, front-all, reports-next, reports-end}
+use Rattle.shown.specs.Shown.{report_lines}
+use Rattle.shown.proofs.Laws.{Front, front_none, front_next, front_all, reports-next, reports_end}
 use Rattle.shown.proofs.put_reports.Statement.{statement}
 use Rattle.shown.proofs.put_reports.Tie as tie
 
 abbrev invariant-loop : tie.invariant-loop
-invariant-loop answer₀ at reports to₀ i₀ t6 t7 answer to i = (length answer ≡ length answer₀) × (i ≤ length reports) × Front (reportLines reports) (reportLines (drop i reports)) answer₀ at answer to
+invariant-loop answer₀ at reports to₀ i₀ t6 t7 answer to i = (length answer ≡ length answer₀) × (i ≤ length reports) × Front (report_lines reports) (report_lines (drop i reports)) answer₀ at answer to
 
 abbrev decreases-loop : tie.decreases-loop
 decreases-loop answer₀ at reports to₀ i₀ t6 t7 answer to i = length reports - i
 
 loop-holds : tie.Need-loop-init invariant-loop decreases-loop
-loop-holds c = (refl, omega arith, front-none)
+loop-holds c = (refl, omega arith, front_none)
 
 sub-loop : tie.Need-overflow-sub-loop invariant-loop decreases-loop
 sub-loop c = search rules
@@ -66,7 +66,7 @@ loop-again c =
     let reports = k.before.before.before.args.reports.now in
     let line = rw (end.wide.ensures, rule.wide2.ensures) at p.put-pair.ensures in
     let front = rw (reports-next reports k.loop.i (omega arith)) at k.loop.invariant.2 in
-    (omega (arith, p.put-pair.auto.0), omega arith, front-next front line)
+    (omega (arith, p.put-pair.auto.0), omega arith, front_next front line)
 
 same_length : tie.Need-same-length invariant-loop decreases-loop
 same_length c = search rules
@@ -75,8 +75,8 @@ returns : tie.Need-returns invariant-loop decreases-loop
 returns c =
     let k = c.before in
     let reports = k.before.before.before.args.reports.now in
-    let front = rw (reports-end reports k.loop.i (omega arith)) at k.loop.invariant.2 in
-    front-all front
+    let front = rw (reports_end reports k.loop.i (omega arith)) at k.loop.invariant.2 in
+    front_all front
 
 pub put-reports-spec : {M : Type 1} → statement M
 put-reports-spec =

@@ -4,19 +4,19 @@ use mathlib.Core.Path.{◌≡◌, refl}
 use native.Mathlib.Omega.{arith}
 use borrow.Author.Rules.{rules}
 use lib.ListN.{length, drop}
-use Rattle.shown.specs.Shown.{sumLines}
-use Rattle.shown.proofs.Laws.{Front, front-none, front-next, front-all, sums_next, sums-end, sums-length}
+use Rattle.shown.specs.Shown.{sum_lines}
+use Rattle.shown.proofs.Laws.{Front, front_none, front_next, front_all, sums_next, sums_end, sums-length}
 use Rattle.shown.proofs.put_sums.Statement.{statement}
 use Rattle.shown.proofs.put_sums.Tie as tie
 
 abbrev invariant-loop : tie.invariant-loop
-invariant-loop answer₀ at sums to₀ rule₀ answer to rule = (length answer ≡ length answer₀) × (rule ≤ length sums) × Front (sumLines 0 sums) (sumLines rule (drop rule sums)) answer₀ at answer to
+invariant-loop answer₀ at sums to₀ rule₀ answer to rule = (length answer ≡ length answer₀) × (rule ≤ length sums) × Front (sum_lines 0 sums) (sum_lines rule (drop rule sums)) answer₀ at answer to
 
 abbrev decreases-loop : tie.decreases-loop
 decreases-loop answer₀ at sums to₀ rule₀ answer to rule = length sums - rule
 
 loop-holds : tie.Need-loop-init invariant-loop decreases-loop
-loop-holds c = (refl, omega arith, front-none)
+loop-holds c = (refl, omega arith, front_none)
 
 mul-put-sum : tie.Need-overflow-mul-put-sum invariant-loop decreases-loop
 mul-put-sum c = search rules
@@ -39,7 +39,7 @@ loop-again c =
     let k = p.before.before.before.before in
     let sums = k.before.before.before.args.sums.now in
     let front = rw (sums_next sums k.loop.rule (omega arith)) at k.loop.invariant.2 in
-    (omega (arith, p.put-sum.auto.0), omega arith, front-next front p.put-sum.ensures)
+    (omega (arith, p.put-sum.auto.0), omega arith, front_next front p.put-sum.ensures)
 
 same_length : tie.Need-same-length invariant-loop decreases-loop
 same_length c = search rules
@@ -49,8 +49,8 @@ returns c =
     let k = c.before in
     let s = k.before in
     let sums = s.before.before.args.sums.now in
-    let front = rw (sums-end sums k.loop.rule (omega arith)) at k.loop.invariant.2 in
-    (sums-length 0 sums (omega arith) (λ i. (s.shared-slice-known.given i).fits), front-all front)
+    let front = rw (sums_end sums k.loop.rule (omega arith)) at k.loop.invariant.2 in
+    (sums-length 0 sums (omega arith) (λ i. (s.shared-slice-known.given i).fits), front_all front)
 
 pub put-sums-spec : {M : Type 1} → statement M
 put-sums-spec =

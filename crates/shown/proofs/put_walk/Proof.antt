@@ -1,7 +1,7 @@
 -- `put_walk` meets its contract: the last line is put behind those of the reports. Assumes nothing.
 use native.Mathlib.Omega.{arith}
 use borrow.Author.Rules.{rules}
-use Rattle.output.proofs.Laws.{puts-append}
+use Rattle.output.proofs.Laws.{puts_append}
 use Rattle.shown.proofs.Laws.{shown-length}
 use Rattle.shown.proofs.put_walk.Statement.{statement}
 use Rattle.shown.proofs.put_walk.Tie as tie
@@ -28,7 +28,7 @@ returns c =
     let k = r.before.before in
     let a = k.before.before.args in (
       shown-length a.reports.now a.falls a.held (λ i. (k.shared-slice-known.given i).fits) (omega arith) (omega arith),
-      puts-append r.put-reports.ensures last.put-pair.ensures,
+      puts_append r.put-reports.ensures last.put-pair.ensures,
     )
 
 pub put-walk-spec : {M : Type 1} → statement M

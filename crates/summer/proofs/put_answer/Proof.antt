@@ -3,7 +3,7 @@ use native.Mathlib.Omega.{arith}
 use borrow.Author.Rules.{rules}
 use Rattle.lent.specs.Lent.{five}
 use Rattle.output.proofs.Room.{whole-refused, whole-accepted}
-use Rattle.summer.specs.Summing.{totalLines}
+use Rattle.summer.specs.Summing.{total_lines}
 use Rattle.summer.proofs.put_answer.Statement.{statement}
 use Rattle.summer.proofs.put_answer.Tie as tie
 
@@ -51,7 +51,7 @@ returns c =
     let tables = five t.1.0 t.1.1.0 t.1.1.1.0 t.1.1.1.1.0 t.1.1.1.1.1.0 in
     let (end, lines) =
     whole-refused
-    (λ rows. totalLines tables rows a.args.profile.now)
+    (λ rows. total_lines tables rows a.args.profile.now)
     (omega (arith, a.requires))
     i.number.ensures
     v.value.ensures
@@ -101,7 +101,7 @@ returns-2 c =
     let tables = five t.1.0 t.1.1.0 t.1.1.1.0 t.1.1.1.1.0 t.1.1.1.1.1.0 in
     let (end, lines) =
     whole-accepted
-    (λ rows. totalLines tables rows a.args.profile.now)
+    (λ rows. total_lines tables rows a.args.profile.now)
     a.requires
     i.number.ensures
     v.value.ensures

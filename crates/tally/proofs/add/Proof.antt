@@ -5,33 +5,33 @@ use mathlib.Core.List.{List}
 use native.Mathlib.Omega.{arith}
 use borrow.Author.Rules.{rules}
 use lib.ListN.{length, drop, length-map, drop_of_length-le}
-use Rattle.sets.specs.Sets.{those, members, setOf, members_of, plusEach}
-use Rattle.sets.specs.Table.{rowWords}
+use Rattle.sets.specs.Sets.{those, members, set_of, members_of, plus_each}
+use Rattle.sets.specs.Table.{row_words}
 use Rattle.sets.proofs.InWords.{from_start, count-drop, members-drop}
 use Rattle.sets.proofs.Members.{members-le}
 use Rattle.sets.proofs.Table.{members-whole}
-use Rattle.book.specs.Limits.{mostRules}
-use Rattle.tally.specs.Tally.{addAll}
+use Rattle.book.specs.Limits.{most_rules}
+use Rattle.tally.specs.Tally.{add_all}
 use Rattle.tally.specs.Passes.{Room}
-use Rattle.tally.proofs.Adding.{add-append, room-less, room-add}
+use Rattle.tally.proofs.Adding.{add_append, room-less, room_add}
 use Rattle.tally.proofs.add.Statement.{statement}
 use Rattle.tally.proofs.add.Tie as tie
 
 abbrev invariant-loop : tie.invariant-loop
 invariant-loop set count sums₀ i₀ sums i =
-    (i ≤ rowWords) × Room (length (members_of (drop i set))) sums × (addAll count (plusEach (64 * i) (members_of (drop i set))) sums ≡ addAll count (members_of set) sums₀)
+    (i ≤ row_words) × Room (length (members_of (drop i set))) sums × (add_all count (plus_each (64 * i) (members_of (drop i set))) sums ≡ add_all count (members_of set) sums₀)
 
 abbrev decreases-loop : tie.decreases-loop
-decreases-loop set count sums₀ i₀ sums i = rowWords - i
+decreases-loop set count sums₀ i₀ sums i = row_words - i
 
 -- the members of as many words as a row has are at most all rules
-few : (ws : List ℕ) → length ws ≡ rowWords → length (members_of ws) ≤ mostRules
-few ws e = rw (members-whole ws e) (members-le mostRules (setOf ws))
+few : (ws : List ℕ) → length ws ≡ row_words → length (members_of ws) ≤ most_rules
+few ws e = rw (members-whole ws e) (members-le most_rules (set_of ws))
 
 loop-holds : tie.Need-loop-init invariant-loop decreases-loop
 loop-holds c =
     let a = c.before in
-    (omega arith, room-less (few a.args.set.now a.requires.1) a.requires.2, ap (λ ks. addAll a.args.count ks a.args.sums.now) (from_start _))
+    (omega arith, room-less (few a.args.set.now a.requires.1) a.requires.2, ap (λ ks. add_all a.args.count ks a.args.sums.now) (from_start _))
 
 mul-add-word : tie.Need-overflow-mul-add-word invariant-loop decreases-loop
 mul-add-word c = search rules
@@ -66,12 +66,12 @@ loop-again c =
     let turn = count-drop ws i (omega arith) small in
     let told = c.add-word.ensures in (
       omega arith,
-      rw told (room-add a.args.count _ _ _ l.loop.sums a.requires.0 (rw length-map (omega (arith, turn))) l.loop.invariant.1),
-      rw told (rw (members-drop ws i (omega arith) small, add-append) at l.loop.invariant.2),
+      rw told (room_add a.args.count _ _ _ l.loop.sums a.requires.0 (rw length-map (omega (arith, turn))) l.loop.invariant.1),
+      rw told (rw (members-drop ws i (omega arith) small, add_append) at l.loop.invariant.2),
     )
 
 returns : tie.Need-returns invariant-loop decreases-loop
-unfolding addAll members_of members those
+unfolding add_all members_of members those
 returns c =
     let l = c.before in
     let a = l.before.before in

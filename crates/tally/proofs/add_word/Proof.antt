@@ -5,17 +5,17 @@ use mathlib.Core.List.{[], ◌∷◌}
 use native.Mathlib.Omega.{arith}
 use borrow.Author.Rules.{rules}
 use lib.ListN.{length}
-use Rattle.sets.specs.Sets.{members, plusEach}
+use Rattle.sets.specs.Sets.{members, plus_each}
 use Rattle.sets.proofs.Members.{members-cons, members-empty, first-lt}
-use Rattle.tally.specs.Tally.{addAll}
+use Rattle.tally.specs.Tally.{add_all}
 use Rattle.tally.specs.Passes.{Room}
-use Rattle.tally.proofs.Adding.{room-add}
+use Rattle.tally.proofs.Adding.{room_add}
 use Rattle.tally.proofs.add_word.Statement.{statement}
 use Rattle.tally.proofs.add_word.Tie as tie
 
 abbrev invariant-loop : tie.invariant-loop
 invariant-loop word base count sums₀ left₀ sums left =
-    (left < 2 ^ 64) × Room (length (members 64 left)) sums × (addAll count (plusEach base (members 64 left)) sums ≡ addAll count (plusEach base (members 64 word)) sums₀)
+    (left < 2 ^ 64) × Room (length (members 64 left)) sums × (add_all count (plus_each base (members 64 left)) sums ≡ add_all count (plus_each base (members 64 word)) sums₀)
 
 abbrev decreases-loop : tie.decreases-loop
 decreases-loop word base count sums₀ left₀ sums left = length (members 64 left)
@@ -64,18 +64,18 @@ loop-less : tie.Need-loop-smaller invariant-loop decreases-loop
 loop-less c = omega (arith, ap length (turn c))
 
 loop-again : tie.Need-loop-preserved invariant-loop decreases-loop
-unfolding addAll
+unfolding add_all
 loop-again c =
     let a = c.before.before.before.before.before in
     let l = c.before.before.before.before.loop in
     let k = a.args.base + c.before.before.first.result in (
       omega arith,
-      room-add a.args.count _ _ (k ∷ []) _ a.requires.0 (omega (arith, ap length (turn c))) l.invariant.1,
+      room_add a.args.count _ _ (k ∷ []) _ a.requires.0 (omega (arith, ap length (turn c))) l.invariant.1,
       rw (turn c) at l.invariant.2,
     )
 
 returns : tie.Need-returns invariant-loop decreases-loop
-unfolding addAll
+unfolding add_all
 returns c = rw (ap (members 64) c.loop-test.false ∙ members-empty 64) at c.before.loop.invariant.2
 
 pub add-word-spec : {M : Type 1} → statement M

@@ -5,14 +5,14 @@ use native.Mathlib.Omega.{arith}
 use borrow.Author.Tests.{not-true, not-false, lt-ltb, le-ltb}
 use borrow.Author.Rules.{rules}
 use lib.ListN.{length, replicate}
-use Rattle.sets.specs.Table.{rulesAt}
-use Rattle.book.specs.Limits.{mostRules}
-use Rattle.lent.specs.Lent.{five, hasRows}
+use Rattle.sets.specs.Table.{rules_at}
+use Rattle.book.specs.Limits.{most_rules}
+use Rattle.lent.specs.Lent.{five, has_rows}
 use Rattle.one_byte.specs.Move.{move_of}
 use Rattle.lines.specs.declared.Pass.{Pass}
 use Rattle.lines.specs.declared.Pass.TheVariants.{Through}
 use Rattle.answers.specs.declared.Tallied.TheVariants.{Accepted}
-use Rattle.tally.specs.Tally.{linesPass, sumsOf, judged, walked, tally_of}
+use Rattle.tally.specs.Tally.{lines_pass, sums_of, judged, walked, tally_of}
 use Rattle.tally.proofs.Adding.{room-zeros}
 use Rattle.tally.proofs.Walks.{lines-length}
 use Rattle.tally.proofs.Answers.{tallied}
@@ -22,10 +22,10 @@ use Rattle.tally.proofs.tally.Tie as tie
 -- the lines' part in the answer, where the pass over them is q
 answered : (k : tie.After-check) (q : Pass) → k.check.result ≡ q →
     let a = k.before.before.before.before.before.before.before.before.before.before.before.before.args in
-    judged q (walked (linesPass (move_of a.goto.now a.fall.now a.n) a.profile.now) Accepted) ≡ tally_of (five a.goto.now a.fall.now a.held.now a.live.now a.out.now) a.n a.profile.now (length a.sums.now)
+    judged q (walked (lines_pass (move_of a.goto.now a.fall.now a.n) a.profile.now) Accepted) ≡ tally_of (five a.goto.now a.fall.now a.held.now a.live.now a.out.now) a.n a.profile.now (length a.sums.now)
 answered k q e =
     let a = k.before.before.before.before.before.before.before.before.before.before.before.before.args in
-    let rows : hasRows (five a.goto.now a.fall.now a.held.now a.live.now a.out.now) a.n ≡ true = sym k.before.before.before.has-rows.ensures ∙ not-false _ k.before.before.if2.false in
+    let rows : has_rows (five a.goto.now a.fall.now a.held.now a.live.now a.out.now) a.n ≡ true = sym k.before.before.before.has-rows.ensures ∙ not-false _ k.before.before.if2.false in
     tallied (five a.goto.now a.fall.now a.held.now a.live.now a.out.now) a.n _ _ k.before.before.before.before.if1.false rows k.before.if3.false k.check.ensures e
 
 -- the walks' part in it, where their pass is q
@@ -37,7 +37,7 @@ passed k q e = ap (λ x. walked x Accepted) (sym e ∙ k.walk-lines.ensures.0) �
 -- and the sums that they leave
 summed : (k : tie.After-walk-lines) → k.walk-lines.result ≡ Through →
     let a = k.before.before.before.before.before.before.before.before.before.before.before.before.before.before.before.before.args in
-    k.walk-lines.new.1.1.1.1.1.0 ≡ sumsOf (move_of a.goto.now a.fall.now a.n) (rulesAt a.out.now) a.profile.now
+    k.walk-lines.new.1.1.1.1.1.0 ≡ sums_of (move_of a.goto.now a.fall.now a.n) (rules_at a.out.now) a.profile.now
 summed k e = rw e at k.walk-lines.ensures.1
 
 returns : tie.Need-returns
@@ -77,7 +77,7 @@ store-requires : tie.Need-store-requires
 store-requires c κs =
     let k = c.before.before.before.before in
     let a = k.before.before.before.before.before.before.before.before.before.before.before.before.before.before.before.before.args in
-    (ap length (summed k c.before.before.enum-told2.given.1) ∙ lines-length (move_of a.goto.now a.fall.now a.n) (rulesAt a.out.now) a.profile.now (replicate mostRules 0), k.before.before.before.before.before.if3.false)
+    (ap length (summed k c.before.before.enum-told2.given.1) ∙ lines-length (move_of a.goto.now a.fall.now a.n) (rules_at a.out.now) a.profile.now (replicate most_rules 0), k.before.before.before.before.before.if3.false)
 
 returns-4 : tie.Need-returns-4
 returns-4 c = (answered c.before.before.before _ c.before.at.given.1, refl)

@@ -7,15 +7,15 @@ use borrow.Author.Rules.{rules}
 use lib.Bits.{bit_or, or_zero_l}
 use lib.ListN.{length, replicate}
 use lib.Seq.{length-take-le}
-use Rattle.sets.specs.Sets.{members, setOf}
-use Rattle.sets.specs.Table.{rowWords}
-use Rattle.book.specs.Limits.{mostRules}
+use Rattle.sets.specs.Sets.{members, set_of}
+use Rattle.sets.specs.Table.{row_words}
+use Rattle.book.specs.Limits.{most_rules}
 use Rattle.one_byte.specs.Move.{move_of}
 use Rattle.lines.specs.declared.Line.TheVariants.{Sound}
 use Rattle.lines.specs.declared.Pass.{Pass}
-use Rattle.lines.specs.Lines.{mostCount, line_of}
-use Rattle.tally.specs.Tally.{addAll, linePass, lineSums}
-use Rattle.lines.proofs.Lines.{line-is}
+use Rattle.lines.specs.Lines.{most_count, line_of}
+use Rattle.tally.specs.Tally.{add_all, line_pass, line_sums}
+use Rattle.lines.proofs.Lines.{line_is}
 use Rattle.tally.proofs.walk_line.Statement.{statement}
 use Rattle.tally.proofs.walk_line.Tie as tie
 
@@ -23,19 +23,19 @@ use Rattle.tally.proofs.walk_line.Tie as tie
 known : (c : tie.After-stack) →
     let line = c.before.before.before.before.before.before.before.args.line.now in
     let v = c.stack.given.0 in
-    ((v.0 < length line) × (v.1.0 ≤ mostCount)) × (line_of line ≡ Sound v.0 v.1.0)
-known c = line-is _ c.before.before.read-line.ensures c.stack.given.1
+    ((v.0 < length line) × (v.1.0 ≤ most_count)) × (line_of line ≡ Sound v.0 v.1.0)
+known c = line_is _ c.before.before.read-line.ensures c.stack.given.1
 
 -- before any frame nothing is seen
-from-none : (ws : List ℕ) (s : ℕ) → ws ≡ replicate rowWords 0 → bit_or (setOf ws) s ≡ s
-unfolding setOf
+from-none : (ws : List ℕ) (s : ℕ) → ws ≡ replicate row_words 0 → bit_or (set_of ws) s ≡ s
+unfolding set_of
 from-none ws s e = rw e (or_zero_l s)
 
 -- the line's pass, where that over its stack is q
 passed : (k : tie.After-walk-stack) (q : Pass) → k.walk-stack.result ≡ q →
     let a = k.before.before.before.before.before.before.before.before.before.before.before.before.args in
-    q ≡ linePass (move_of a.goto.now a.fall.now a.n) a.base a.line.now
-unfolding linePass
+    q ≡ line_pass (move_of a.goto.now a.fall.now a.n) a.base a.line.now
+unfolding line_pass
 passed k q e = rw (known k.before.before.before.before.before).1 (sym e ∙ k.walk-stack.ensures.0)
 
 read-line-requires : tie.Need-read-line-requires
@@ -80,21 +80,21 @@ enum-told-2 : tie.Need-enum-told-2
 enum-told-2 c = search rules
 
 returns : tie.Need-returns
-unfolding lineSums
+unfolding line_sums
 returns c =
     let k = c.before.before.before.before.before.before in
     let a = k.before.before.before.before.before.before.before.before.before.before.before.before.args in
     let e = c.before.before.before.enum_told.given.1 in
     let v = k.before.before.before.before.before in
     let seen = rw e at k.walk-stack.ensures.1 ∙ from-none _ _ k.before.before.before.none.ensures.0 in
-    (passed k _ e, rw (known v).1 (c.add.ensures ∙ ap (λ s. addAll v.stack.given.0.1.0 (members mostRules s) a.sums.now) seen))
+    (passed k _ e, rw (known v).1 (c.add.ensures ∙ ap (λ s. add_all v.stack.given.0.1.0 (members most_rules s) a.sums.now) seen))
 
 returns-2 : tie.Need-returns-2
 returns-2 c = (passed c.before.before.before.before _ c.before.at.given.1, tt)
 
 returns-3 : tie.Need-returns-3
-unfolding linePass lineSums
-returns-3 c = let k = (line-is _ c.before.before.read-line.ensures c.enum-told2.given.1).1 in (rw k, rw k)
+unfolding line_pass line_sums
+returns-3 c = let k = (line_is _ c.before.before.read-line.ensures c.enum-told2.given.1).1 in (rw k, rw k)
 
 pub walk-line-spec : {M : Type 1} → statement M
 walk-line-spec =

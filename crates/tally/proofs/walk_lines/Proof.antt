@@ -5,24 +5,24 @@ use mathlib.Core.Path.{◌≡◌, refl, sym, ◌∙◌}
 use native.Mathlib.Omega.{arith}
 use borrow.Author.Rules.{rules}
 use lib.ListN.{length, drop}
-use Rattle.sets.specs.Table.{rulesAt}
-use Rattle.book.specs.Limits.{mostRules}
+use Rattle.sets.specs.Table.{rules_at}
+use Rattle.book.specs.Limits.{most_rules}
 use Rattle.one_byte.specs.Move.{move_of}
 use Rattle.lines.specs.declared.Pass.{Pass}
-use Rattle.lines.specs.Lines.{lines_of, onPass, passOver}
-use Rattle.tally.specs.Tally.{linePass, sumsOver, linesPass, linesSums}
+use Rattle.lines.specs.Lines.{lines_of, on_pass, pass_over}
+use Rattle.tally.specs.Tally.{line_pass, sums_over, lines_pass, lines_sums}
 use Rattle.tally.specs.Passes.{Room}
-use Rattle.lines.proofs.Lines.{piece, piece-length, lines-pass, lines_end}
+use Rattle.lines.proofs.Lines.{piece, piece-length, lines_pass_lem, lines_end}
 use Rattle.tally.proofs.Adding.{room-less}
-use Rattle.tally.proofs.Walks.{line-room, lines-sums, lines-sums-end}
+use Rattle.tally.proofs.Walks.{line_room, lines-sums, lines-sums_end}
 use Rattle.tally.proofs.walk_lines.Statement.{statement}
 use Rattle.tally.proofs.walk_lines.Tie as tie
 
 abbrev invariant-loop : tie.invariant-loop
 invariant-loop goto fall out n profile sums₀ at₀ sums at =
-    (at ≤ length profile + 1) × Room (mostRules * (length profile - at)) sums
-    × (passOver (linePass (move_of goto fall n)) at (lines_of (drop at profile)) ≡ linesPass (move_of goto fall n) profile)
-    × (sumsOver (move_of goto fall n) (rulesAt out) (lines_of (drop at profile)) sums ≡ linesSums (move_of goto fall n) (rulesAt out) profile sums₀)
+    (at ≤ length profile + 1) × Room (most_rules * (length profile - at)) sums
+    × (pass_over (line_pass (move_of goto fall n)) at (lines_of (drop at profile)) ≡ lines_pass (move_of goto fall n) profile)
+    × (sums_over (move_of goto fall n) (rules_at out) (lines_of (drop at profile)) sums ≡ lines_sums (move_of goto fall n) (rules_at out) profile sums₀)
 
 abbrev decreases-loop : tie.decreases-loop
 decreases-loop goto fall out n profile sums₀ at₀ sums at = length profile - at
@@ -31,15 +31,15 @@ decreases-loop goto fall out n profile sums₀ at₀ sums at = length profile - 
 turn : (k : tie.After-walk-line invariant-loop decreases-loop) (q : Pass) → k.walk-line.result ≡ q →
     let a = k.before.before.before.before.before.before.before.before.before.before.args in
     let end = k.before.before.before.find.result in
-    onPass q (passOver (linePass (move_of a.goto.now a.fall.now a.n)) (end + 1) (lines_of (drop (end + 1) a.profile.now))) ≡ linesPass (move_of a.goto.now a.fall.now a.n) a.profile.now
+    on_pass q (pass_over (line_pass (move_of a.goto.now a.fall.now a.n)) (end + 1) (lines_of (drop (end + 1) a.profile.now))) ≡ lines_pass (move_of a.goto.now a.fall.now a.n) a.profile.now
 turn k q e =
     let l = k.before.before.before.before.before.loop in
     let f = k.before.before.before.find.ensures in
     let t = k.before.before.before.before.loop-test.true in
-    rw (← k.walk-line.ensures.0, e) at (sym (lines-pass _ _ l.at _ t f.0 (omega (arith, f.1, t))) ∙ l.invariant.2)
+    rw (← k.walk-line.ensures.0, e) at (sym (lines_pass_lem _ _ l.at _ t f.0 (omega (arith, f.1, t))) ∙ l.invariant.2)
 
 loop-holds : tie.Need-loop-init invariant-loop decreases-loop
-unfolding linesPass linesSums
+unfolding lines_pass lines_sums
 loop-holds c = let p = c.before.before.before.before.requires in (omega arith, room-less (omega arith) p.1, refl, refl)
 
 find-requires : tie.Need-find-requires invariant-loop decreases-loop
@@ -79,7 +79,7 @@ loop-again c =
     let t = k.before.before.before.before.loop-test.true in
     let told = rw c.enum_told.given.1 at k.walk-line.ensures.1 in (
       omega arith,
-      rw told (line-room _ _ _ _ (piece a.profile.now l.at f.result) l.sums (omega arith) l.invariant.1),
+      rw told (line_room _ _ _ _ (piece a.profile.now l.at f.result) l.sums (omega arith) l.invariant.1),
       turn k _ c.enum_told.given.1,
       rw told (sym (lines-sums _ _ _ l.at _ l.sums t f.ensures.0 (omega (arith, f.ensures.1, t))) ∙ l.invariant.3),
     )
@@ -94,7 +94,7 @@ returns-2 : tie.Need-returns-2 invariant-loop decreases-loop
 returns-2 c =
     let l = c.before.loop in
     let t = c.loop-test.false in
-    (sym (lines_end _ _ _ t) ∙ l.invariant.2, sym (lines-sums-end _ _ _ _ l.sums t) ∙ l.invariant.3)
+    (sym (lines_end _ _ _ t) ∙ l.invariant.2, sym (lines-sums_end _ _ _ _ l.sums t) ∙ l.invariant.3)
 
 pub walk-lines-spec : {M : Type 1} → statement M
 walk-lines-spec =

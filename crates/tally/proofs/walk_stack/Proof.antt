@@ -7,23 +7,23 @@ use native.Mathlib.Omega.{arith}
 use borrow.Author.Rules.{rules}
 use lib.Bits.{bit_or, or_zero_r}
 use lib.ListN.{length, drop}
-use Rattle.sets.specs.Sets.{setOf}
-use Rattle.sets.specs.Table.{rowWords, rulesAt}
+use Rattle.sets.specs.Sets.{set_of}
+use Rattle.sets.specs.Table.{row_words, rules_at}
 use Rattle.sets.proofs.Laws.{union_assoc}
 use Rattle.one_byte.specs.Move.{move_of}
 use Rattle.lines.specs.declared.Pass.{Pass}
-use Rattle.lines.specs.Lines.{framesOf, onPass, passOver}
-use Rattle.tally.specs.Tally.{framePass, rulesOver, stackPass, stackRules}
+use Rattle.lines.specs.Lines.{frames_of, on_pass, pass_over}
+use Rattle.tally.specs.Tally.{frame_pass, rules_over, stack_pass, stack_rules}
 use Rattle.lines.proofs.Lines.{piece-length}
-use Rattle.tally.proofs.Walks.{stack-rules-step, stack-pass, stack-end, stack-rules-end}
+use Rattle.tally.proofs.Walks.{stack_rules_step, stack_pass_lem, stack_end, stack_rules_end}
 use Rattle.tally.proofs.walk_stack.Statement.{statement}
 use Rattle.tally.proofs.walk_stack.Tie as tie
 
 abbrev invariant-loop : tie.invariant-loop
 invariant-loop goto fall out n stack base seen₀ at₀ seen at =
-    (at ≤ length stack + 1) × (length seen ≡ rowWords)
-    × (passOver (framePass (move_of goto fall n)) (base + at) (framesOf (drop at stack)) ≡ stackPass (move_of goto fall n) base stack)
-    × (bit_or (setOf seen) (rulesOver (move_of goto fall n) (rulesAt out) (framesOf (drop at stack))) ≡ bit_or (setOf seen₀) (stackRules (move_of goto fall n) (rulesAt out) stack))
+    (at ≤ length stack + 1) × (length seen ≡ row_words)
+    × (pass_over (frame_pass (move_of goto fall n)) (base + at) (frames_of (drop at stack)) ≡ stack_pass (move_of goto fall n) base stack)
+    × (bit_or (set_of seen) (rules_over (move_of goto fall n) (rules_at out) (frames_of (drop at stack))) ≡ bit_or (set_of seen₀) (stack_rules (move_of goto fall n) (rules_at out) stack))
 
 abbrev decreases-loop : tie.decreases-loop
 decreases-loop goto fall out n stack base seen₀ at₀ seen at = length stack - at
@@ -32,17 +32,17 @@ decreases-loop goto fall out n stack base seen₀ at₀ seen at = length stack -
 turn : (k : tie.After-walk-frame invariant-loop decreases-loop) (q : Pass) → k.walk-frame.result ≡ q →
     let a = k.before.before.before.before.before.before.before.before.before.before.before.args in
     let end = k.before.before.before.find.result in
-    onPass q (passOver (framePass (move_of a.goto.now a.fall.now a.n)) (a.base + (end + 1)) (framesOf (drop (end + 1) a.stack.now)))
-    ≡ stackPass (move_of a.goto.now a.fall.now a.n) a.base a.stack.now
+    on_pass q (pass_over (frame_pass (move_of a.goto.now a.fall.now a.n)) (a.base + (end + 1)) (frames_of (drop (end + 1) a.stack.now)))
+    ≡ stack_pass (move_of a.goto.now a.fall.now a.n) a.base a.stack.now
 turn k q e =
     let a = k.before.before.before.before.before.before.before.before.before.before.before.args in
     let l = k.before.before.before.before.before.loop in
     let f = k.before.before.before.find.ensures in
     let t = k.before.before.before.before.loop-test.true in
-    rw (← k.walk-frame.ensures.0, e) at (sym (stack-pass _ a.stack.now a.base l.at _ t f.0 (omega (arith, f.1, t))) ∙ l.invariant.2)
+    rw (← k.walk-frame.ensures.0, e) at (sym (stack_pass_lem _ a.stack.now a.base l.at _ t f.0 (omega (arith, f.1, t))) ∙ l.invariant.2)
 
 loop-holds : tie.Need-loop-init invariant-loop decreases-loop
-unfolding stackPass stackRules
+unfolding stack_pass stack_rules
 loop-holds c = let p = c.before.before.before.before.before.requires in (omega arith, p.1, rw add-zero, refl)
 
 find-requires : tie.Need-find-requires invariant-loop decreases-loop
@@ -84,11 +84,11 @@ loop-again c =
     let f = k.before.before.before.find in
     let t = k.before.before.before.before.loop-test.true in
     let told = rw c.enum_told.given.1 at k.walk-frame.ensures.1 in
-    let whole = stack-rules-step (move_of a.goto.now a.fall.now a.n) (rulesAt a.out.now) a.stack.now l.at _ t f.ensures.0 (omega (arith, f.ensures.1, t)) in (
+    let whole = stack_rules_step (move_of a.goto.now a.fall.now a.n) (rules_at a.out.now) a.stack.now l.at _ t f.ensures.0 (omega (arith, f.ensures.1, t)) in (
       omega arith,
       search rules,
       turn k _ c.enum_told.given.1,
-      rw (told, union_assoc) (ap (bit_or (setOf l.seen)) (sym whole) ∙ l.invariant.3),
+      rw (told, union_assoc) (ap (bit_or (set_of l.seen)) (sym whole) ∙ l.invariant.3),
     )
 
 enum-known-lost : tie.Need-enum-known-lost invariant-loop decreases-loop
@@ -107,7 +107,7 @@ returns-2 : tie.Need-returns-2 invariant-loop decreases-loop
 returns-2 c =
     let l = c.before.loop in
     let t = c.loop-test.false in
-    (sym (stack-end _ _ _ _ t) ∙ l.invariant.2, rw (stack-rules-end _ _ _ _ t, or_zero_r) at l.invariant.3)
+    (sym (stack_end _ _ _ _ t) ∙ l.invariant.2, rw (stack_rules_end _ _ _ _ t, or_zero_r) at l.invariant.3)
 
 pub walk-stack-spec : {M : Type 1} → statement M
 walk-stack-spec =

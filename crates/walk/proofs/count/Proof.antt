@@ -7,26 +7,26 @@ use mathlib.Core.Path.{◌≡◌, sym, ◌∙◌}
 use native.Mathlib.Omega.{arith}
 use borrow.Author.Rules.{rules}
 use lib.ListN.{length, drop}
-use Rattle.meaning.specs.Tables.{noEntry}
-use Rattle.book.specs.Limits.{mostRules, mostRows}
+use Rattle.meaning.specs.Tables.{no_entry}
+use Rattle.book.specs.Limits.{most_rules, most_rows}
 use Rattle.one_byte.specs.declared.Moved.TheVariants.{Reached, Lost}
-use Rattle.one_byte.specs.Move.{moveFrom}
+use Rattle.one_byte.specs.Move.{move_from}
 use Rattle.walk.specs.Walk.{run_from, run_of}
-use Rattle.one_byte.proofs.Laws.{falls-back, first-go, first-fall, first-wrong}
+use Rattle.one_byte.proofs.Laws.{falls-back, first_go, first-fall, first_wrong}
 use Rattle.walk.proofs.Laws.{run_end, run-move}
 use Rattle.walk.proofs.count.Statement.{statement}
 use Rattle.walk.proofs.count.Tie as tie
 
 abbrev invariant-falls : tie.invariant-falls
 invariant-falls goto fall out n text row₀ falls made at sound₀ byte more₀ row sound more =
-    (row < n) × (more + row ≤ row₀) × (sound ≡ true) × (moveFrom goto fall n row byte more ≡ moveFrom goto fall n row₀ byte 0)
+    (row < n) × (more + row ≤ row₀) × (sound ≡ true) × (move_from goto fall n row byte more ≡ move_from goto fall n row₀ byte 0)
 
 abbrev decreases-falls : tie.decreases-falls
 decreases-falls goto fall out n text row₀ falls made at sound₀ byte more₀ row sound more = row
 
 abbrev invariant-bytes : tie.invariant-bytes
 invariant-bytes goto fall out n text row₀ falls₀ made₀ at₀ sound₀ row falls made at sound =
-    (row < n) × (falls ≤ mostRows * at) × (made ≤ mostRules * at) × (at ≤ length text) × (sound ≡ true)
+    (row < n) × (falls ≤ most_rows * at) × (made ≤ most_rules * at) × (at ≤ length text) × (sound ≡ true)
     × (run_from goto fall out n at row falls made (drop at text) ≡ run_of goto fall out n text)
 
 abbrev decreases-bytes : tie.decreases-bytes
@@ -34,7 +34,7 @@ decreases-bytes goto fall out n text row₀ falls₀ made₀ at₀ sound₀ row 
 
 -- where the walk falls back
 back : (c : tie.Else2 invariant-falls decreases-falls invariant-bytes decreases-bytes)
-    → (c.before.before.before.before.entry_at.result ≡ noEntry) × (c.before.before.fall-at.result < c.before.before.before.before.before.falls.row)
+    → (c.before.before.before.before.entry_at.result ≡ no_entry) × (c.before.before.fall-at.result < c.before.before.before.before.before.falls.row)
 back c = falls-back _ _ _ _ c.before.before.before.if1.false (sym c.before.is-unwritten.ensures ∙ c.if2.false)
 
 bytes-holds : tie.Need-bytes-init invariant-falls decreases-falls invariant-bytes decreases-bytes
@@ -91,8 +91,8 @@ bytes-again c =
     let e = c.before.before.entry_at in
     let f = c.before.before.before.falls in
     let b = c.before.before.before.before.before.before.bytes in
-    let ne : e.result ≢ noEntry = omega arith in
-    let l = sym f.invariant.3 ∙ first-go _ _ _ _ _ f.more e.ensures ne c.before.if1.true in (
+    let ne : e.result ≢ no_entry = omega arith in
+    let l = sym f.invariant.3 ∙ first_go _ _ _ _ _ f.more e.ensures ne c.before.if1.true in (
       c.before.if1.true,
       omega arith,
       omega arith,
@@ -113,7 +113,7 @@ returns-2 c =
     ⊎_elim
     (λ w. absurd (true≢false (sym c.before.before.bytes.invariant.4 ∙ sym w.2 ∙ c.if3.false)))
     (λ w.
-    let l = first-wrong _ _ _ _ _ w.2.more w.3.ensures w.5.ensures (sym w.6.ensures ∙ w.7.taken) in
+    let l = first_wrong _ _ _ _ _ w.2.more w.3.ensures w.5.ensures (sym w.6.ensures ∙ w.7.taken) in
     sym (run-move _ _ _ _ _ _ _ _ _ Lost w.0.taken (sym w.2.inv.3 ∙ l)) ∙ c.before.before.bytes.invariant.5)
     c.before.bytes-test.branch
 

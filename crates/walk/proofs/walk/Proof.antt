@@ -7,9 +7,9 @@ use native.Mathlib.Omega.{arith}
 use borrow.Author.Rules.{rules}
 use borrow.Author.Tests.{not-true, not-false, lt-ltb, le-ltb}
 use lib.ListN.{length}
-use Rattle.lent.specs.Lent.{five, lent, hasRows}
+use Rattle.lent.specs.Lent.{five, lent, has_rows}
 use Rattle.walk.specs.declared.Counted.{Counted}
-use Rattle.walk.specs.Walk.{Walkable, reportsOf, answer_of, walk_of}
+use Rattle.walk.specs.Walk.{Walkable, reports_of, answer_of_lem, walk_of}
 use Rattle.lent.proofs.HasRows.{has-rows}
 use Rattle.walk.proofs.Laws.{counted, walked}
 use Rattle.walk.proofs.walk.Statement.{statement}
@@ -18,7 +18,7 @@ use Rattle.walk.proofs.walk.Tie as tie
 -- there are rows, and they are lent
 rows : (k : tie.Else2) →
     let a = k.before.before.before.before.before.before.before.before.before.before.args in
-    hasRows (five a.goto.now a.fall.now a.held.now a.live.now a.out.now) a.n ≡ true
+    has_rows (five a.goto.now a.fall.now a.held.now a.live.now a.out.now) a.n ≡ true
 rows k = sym k.before.has-rows.ensures ∙ not-false _ k.if2.false
 
 lends : (k : tie.Else2) →
@@ -40,7 +40,7 @@ walkable k =
 -- the first pass counts the reports, and ends in one of the rows
 found : (c : tie.After-made) →
     let a = c.before.before.before.before.before.before.before.before.before.before.before.before.before.args in
-    (c.made.given.0.1.1.0 < a.n) × (2 * c.made.given.0.0 ≡ 2 * 0 + length (reportsOf a.goto.now a.fall.now a.out.now a.n a.text.now))
+    (c.made.given.0.1.1.0 < a.n) × (2 * c.made.given.0.0 ≡ 2 * 0 + length (reports_of a.goto.now a.fall.now a.out.now a.n a.text.now))
 found c =
     let (ne, _) = lends c.before.before.before in
     counted _ _ _ _ _ (omega arith) c.before.before.count.ensures c.made.given.1
@@ -48,7 +48,7 @@ found c =
 -- the run's part in the answer, where the run is q
 answered : (k : tie.After-count) (q : Counted) → k.count.result ≡ q →
     let a = k.before.before.before.before.before.before.before.before.before.before.before.args in
-    answer_of a.held.now (length a.reports.now / 2) q ≡ walk_of (five a.goto.now a.fall.now a.held.now a.live.now a.out.now) a.n a.text.now (length a.reports.now)
+    answer_of_lem a.held.now (length a.reports.now / 2) q ≡ walk_of (five a.goto.now a.fall.now a.held.now a.live.now a.out.now) a.n a.text.now (length a.reports.now)
 answered k q e =
     let a = k.before.before.before.before.before.before.before.before.before.before.before.args in
     walked (five a.goto.now a.fall.now a.held.now a.live.now a.out.now) _ _ _ k.before.before.before.if1.false (rows k.before) k.count.ensures e

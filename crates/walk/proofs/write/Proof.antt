@@ -8,19 +8,19 @@ use borrow.Author.Rules.{rules}
 use lib.ListN.{length, get_or, drop, length-append}
 use lib.Seq.{sets as stored}
 use Rattle.sets.specs.Sets.{reports as pairs}
-use Rattle.sets.proofs.Members.{reports-length, sets-append}
+use Rattle.sets.proofs.Members.{reports-length, sets_append}
 use Rattle.one_byte.specs.declared.Moved.TheVariants.{Reached, Lost}
-use Rattle.walk.specs.Walk.{reported, reportsFrom, reportsOf, written}
-use Rattle.one_byte.specs.Move.{moveFrom}
+use Rattle.walk.specs.Walk.{reported, reports_from, reports_of, written}
+use Rattle.one_byte.specs.Move.{move_from}
 use Rattle.one_byte.proofs.Laws.{moved, move-lent}
-use Rattle.walk.proofs.Laws.{reports-move, reports-some, stored-all, stored-none}
+use Rattle.walk.proofs.Laws.{reports-move, reports-some, stored_all, stored_none}
 use Rattle.walk.proofs.write.Statement.{statement}
 use Rattle.walk.proofs.write.Tie as tie
 
 abbrev invariant-loop : tie.invariant-loop
 invariant-loop goto fall out n text places reports₀ row₀ to₀ at₀ reports row to at =
-    (row < n) × (length reports ≡ length reports₀) × (to + length (reportsFrom goto fall out n at row (drop at text)) ≡ places)
-    × (stored reports to (reportsFrom goto fall out n at row (drop at text)) ≡ written (reportsOf goto fall out n text) reports₀)
+    (row < n) × (length reports ≡ length reports₀) × (to + length (reports_from goto fall out n at row (drop at text)) ≡ places)
+    × (stored reports to (reports_from goto fall out n at row (drop at text)) ≡ written (reports_of goto fall out n text) reports₀)
 
 abbrev decreases-loop : tie.decreases-loop
 decreases-loop goto fall out n text places reports₀ row₀ to₀ at₀ reports row to at = length text - at
@@ -37,7 +37,7 @@ left c =
 on : (c : tie.After-move-on invariant-loop decreases-loop) →
     let a = c.before.before.before.before.before.before.before.before.before.args in
     let l = c.before.before.before.loop in
-    c.move-on.result ≡ moveFrom a.goto.now a.fall.now a.n l.row (get_or a.text.now l.at 0) 0
+    c.move-on.result ≡ move_from a.goto.now a.fall.now a.n l.row (get_or a.text.now l.at 0) 0
 on c =
     let a = c.before.before.before.before.before.before.before.before.before in
     c.move-on.ensures ∙ move-lent _ _ _ _ _ a.requires.0.lent c.before.before.before.loop.invariant.0
@@ -51,14 +51,14 @@ more : (c : tie.After-next invariant-loop decreases-loop) →
     let a = c.before.before.before.before.before.before.before.before.before.before.before.args in
     let l = c.before.before.before.before.before.loop in
     let to = c.next.given.0.0 in
-    reportsFrom a.goto.now a.fall.now a.out.now a.n l.at l.row (drop l.at a.text.now)
-    ≡ pairs (l.at + 1) (reported a.out.now to) ++ reportsFrom a.goto.now a.fall.now a.out.now a.n (l.at + 1) to (drop (l.at + 1) a.text.now)
+    reports_from a.goto.now a.fall.now a.out.now a.n l.at l.row (drop l.at a.text.now)
+    ≡ pairs (l.at + 1) (reported a.out.now to) ++ reports_from a.goto.now a.fall.now a.out.now a.n (l.at + 1) to (drop (l.at + 1) a.text.now)
 more c =
     reports-move _ _ _ _ _ _ _ (Reached c.next.given.0.0 c.next.given.0.1.0) (left c.before.before.before.before)
     (moved _ _ _ _ _ 0 (on c.before.before) c.next.given.1).1
 
 loop-holds : tie.Need-loop-init invariant-loop decreases-loop
-loop-holds c = let p = c.before.before.before.before.before.requires in (omega arith, refl, omega (arith, p.1), stored-all _ _ (omega (arith, p.1)))
+loop-holds c = let p = c.before.before.before.before.before.requires in (omega arith, refl, omega (arith, p.1), stored_all _ _ (omega (arith, p.1)))
 
 shared-slice-read-move-on : tie.Need-shared-slice-read-move-on invariant-loop decreases-loop
 shared-slice-read-move-on c = left c.before
@@ -93,7 +93,7 @@ loop-again c =
       row_next n,
       k ∙ l.invariant.1,
       omega (arith, w.ensures.0, k),
-      rw (w.ensures.1, w.ensures.0) (simp (more n, sets-append, reports-length) at l.invariant.3),
+      rw (w.ensures.1, w.ensures.0) (simp (more n, sets_append, reports-length) at l.invariant.3),
     )
 
 enum_told : tie.Need-enum-told invariant-loop decreases-loop
@@ -117,9 +117,9 @@ returns-2 c =
     let a = c.before.before.before.before.before.before.before.args in
     let l = c.before.loop in
     let i = l.invariant in
-    let xs = reportsFrom a.goto.now a.fall.now a.out.now a.n l.at l.row (drop l.at a.text.now) in
+    let xs = reports_from a.goto.now a.fall.now a.out.now a.n l.at l.row (drop l.at a.text.now) in
     let none : length xs ≡ 0 = omega (arith, c.loop-test.false) in
-    sym (stored-none _ xs l.to none) ∙ i.3
+    sym (stored_none _ xs l.to none) ∙ i.3
 
 pub write_spec : {M : Type 1} → statement M
 write_spec =

@@ -4,14 +4,14 @@ use native.Mathlib.Omega.{arith}
 use Prim.Native.Nat.{◌-◌, ◌≤◌}
 use borrow.Author.Rules.{rules}
 use lib.ListN.{length}
-use Rattle.sets.proofs.Writing.{Writing, writing_start, writing-next}
-use Rattle.book.proofs.Tables.{is-table}
-use Rattle.widen.specs.Widen.{widenedAt, widened}
+use Rattle.sets.proofs.Writing.{Writing, writing_start, writing_next}
+use Rattle.book.proofs.Tables.{is_table}
+use Rattle.widen.specs.Widen.{widened_at, widened}
 use Rattle.widen.proofs.spread.Statement.{statement}
 use Rattle.widen.proofs.spread.Tie as tie
 
 abbrev invariant-loop : tie.invariant-loop
-invariant-loop old new₀ i₀ new i = (i ≤ length new₀) × Writing (widenedAt old) new₀ 0 i new
+invariant-loop old new₀ i₀ new i = (i ≤ length new₀) × Writing (widened_at old) new₀ 0 i new
 
 abbrev decreases-loop : tie.decreases-loop
 decreases-loop old new₀ i₀ new i = length new₀ - i
@@ -37,7 +37,7 @@ loop-less c = search rules
 loop-again : tie.Need-loop-preserved invariant-loop decreases-loop
 loop-again c =
     let w = c.before.before.loop.invariant.1 in
-    (omega arith, writing-next (omega arith) (omega (arith, w.long)) c.at.ensures w)
+    (omega arith, writing_next (omega arith) (omega (arith, w.long)) c.at.ensures w)
 
 same_length : tie.Need-same-length invariant-loop decreases-loop
 same_length c = search rules
@@ -46,7 +46,7 @@ returns : tie.Need-returns invariant-loop decreases-loop
 unfolding widened
 returns c =
     let w = c.before.loop.invariant.1 in
-    is-table _ _ _ w.long (λ j h. rw zero-add at (w.done j (omega (arith, w.long))))
+    is_table _ _ _ w.long (λ j h. rw zero-add at (w.done j (omega (arith, w.long))))
 
 pub spread-spec : {M : Type 1} → statement M
 spread-spec =

@@ -7,13 +7,13 @@ use borrow.Author.Rules.{rules}
 use lib.Dec.{eqb}
 use lib.ListN.{length, drop, drop_of_length-le}
 use lib.Seq.{drop-cons}
-use Rattle.sets.specs.Sets.{setOf}
-use Rattle.sets.proofs.InWords.{empty-cons, not-empty}
+use Rattle.sets.specs.Sets.{set_of}
+use Rattle.sets.proofs.InWords.{empty-cons, not_empty_lem}
 use Rattle.words.proofs.is_empty.Statement.{statement}
 use Rattle.words.proofs.is_empty.Tie as tie
 
 abbrev invariant-loop : tie.invariant-loop
-invariant-loop words i₀ i = (i ≤ length words) × (eqb (setOf words) 0 ≡ eqb (setOf (drop i words)) 0)
+invariant-loop words i₀ i = (i ≤ length words) × (eqb (set_of words) 0 ≡ eqb (set_of (drop i words)) 0)
 
 abbrev decreases-loop : tie.decreases-loop
 decreases-loop words i₀ i = length words - i
@@ -31,7 +31,7 @@ returns : tie.Need-returns invariant-loop decreases-loop
 returns c =
     let l = c.before.before.before in
     let ws = l.before.args.words.now in
-    sym (l.loop.invariant.1 ∙ rw (drop-cons ws l.loop.i 0 c.before.before.loop-test.true) (not-empty _ _ c.if1.true))
+    sym (l.loop.invariant.1 ∙ rw (drop-cons ws l.loop.i 0 c.before.before.loop-test.true) (not_empty_lem _ _ c.if1.true))
 
 add-i : tie.Need-overflow-add-i invariant-loop decreases-loop
 add-i c = search rules
@@ -46,7 +46,7 @@ loop-again c =
     (omega arith, l.loop.invariant.1 ∙ rw (drop-cons ws l.loop.i 0 c.before.before.loop-test.true, c.if1.false, add-one) (empty-cons _))
 
 returns-2 : tie.Need-returns-2 invariant-loop decreases-loop
-unfolding setOf
+unfolding set_of
 returns-2 c = sym (c.before.loop.invariant.1 ∙ rw (drop_of_length-le c.before.before.args.words.now c.loop-test.false))
 
 pub is_empty_spec : {M : Type 1} → statement M

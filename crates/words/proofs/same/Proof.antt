@@ -9,13 +9,13 @@ use borrow.Author.Tests.{eq-eqb, ne_eqb}
 use lib.Dec.{eqb}
 use lib.ListN.{length, get_or, drop, drop_of_length-le}
 use lib.Seq.{drop-cons}
-use Rattle.sets.specs.Sets.{setOf}
+use Rattle.sets.specs.Sets.{set_of}
 use Rattle.sets.proofs.InWords.{same-cons, not_same}
 use Rattle.words.proofs.same.Statement.{statement}
 use Rattle.words.proofs.same.Tie as tie
 
 abbrev invariant-loop : tie.invariant-loop
-invariant-loop a b i₀ i = (i ≤ length a) × (length a ≡ length b) × (eqb (setOf a) (setOf b) ≡ eqb (setOf (drop i a)) (setOf (drop i b)))
+invariant-loop a b i₀ i = (i ≤ length a) × (length a ≡ length b) × (eqb (set_of a) (set_of b) ≡ eqb (set_of (drop i a)) (set_of (drop i b)))
 
 abbrev decreases-loop : tie.decreases-loop
 decreases-loop a b i₀ i = length a - i
@@ -74,7 +74,7 @@ returns-3 c =
     let b = k.args.b.now in
     let h = c.loop-test.false in
     let h' : length b ≤ l.loop.i = omega arith in
-    sym (rw (eq-eqb (length a) (length b) l.loop.invariant.1) (l.loop.invariant.2 ∙ rw (drop_of_length-le a h, drop_of_length-le b h') (eq-eqb (setOf []) (setOf []) refl)))
+    sym (rw (eq-eqb (length a) (length b) l.loop.invariant.1) (l.loop.invariant.2 ∙ rw (drop_of_length-le a h, drop_of_length-le b h') (eq-eqb (set_of []) (set_of []) refl)))
 
 pub same_spec : {M : Type 1} → statement M
 same_spec =

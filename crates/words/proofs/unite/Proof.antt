@@ -8,8 +8,8 @@ use lib.Bits.{bit_or}
 use lib.ListN.{length, get_or}
 use lib.Seq.{ext_get_or}
 use Rattle.sets.specs.Sets.{united}
-use Rattle.sets.proofs.InWords.{length-united, word-united, setOf-united}
-use Rattle.sets.proofs.Writing.{Writing, writing_start, writing-next}
+use Rattle.sets.proofs.InWords.{length-united, word_united, set_of-united}
+use Rattle.sets.proofs.Writing.{Writing, writing_start, writing_next}
 use Rattle.words.proofs.unite.Statement.{statement}
 use Rattle.words.proofs.unite.Tie as tie
 
@@ -50,7 +50,7 @@ loop-again : tie.Need-loop-preserved invariant-loop decreases-loop
 loop-again c =
     let l = c.before.before.before.before in
     let w = l.loop.invariant.1 in
-    (omega arith, writing-next (omega arith) (omega (arith, w.long)) (c.union.ensures ∙ rw (w.after l.loop.i (omega arith), c.before.word.ensures)) w)
+    (omega arith, writing_next (omega arith) (omega (arith, w.long)) (c.union.ensures ∙ rw (w.after l.loop.i (omega arith), c.before.word.ensures)) w)
 
 same_length : tie.Need-same-length invariant-loop decreases-loop
 same_length c = search rules
@@ -62,13 +62,13 @@ joined c =
     let w = c.before.loop.invariant.1 in
     let all : c.before.loop.i ≡ length us = omega (arith, w.long) in
     ext_get_or 0 _ (united us a.more.now) (w.long ∙ sym (length-united us a.more.now))
-    (λ j h. let l : j < length us = omega (arith, w.long) in rw zero-add at (w.done j (omega arith)) ∙ sym (word-united us a.more.now j l))
+    (λ j h. let l : j < length us = omega (arith, w.long) in rw zero-add at (w.done j (omega arith)) ∙ sym (word_united us a.more.now j l))
 
 returns : tie.Need-returns invariant-loop decreases-loop
 returns c =
     let k = c.before.before.before in
     let a = k.before.args in
-    (joined c, λ h. rw (joined c) (setOf-united a.words.now a.more.now (λ i. (k.slice-known.given i).fits) (λ i. (c.before.before.shared-slice-known.given i).fits) h))
+    (joined c, λ h. rw (joined c) (set_of-united a.words.now a.more.now (λ i. (k.slice-known.given i).fits) (λ i. (c.before.before.shared-slice-known.given i).fits) h))
 
 pub unite-spec : {M : Type 1} → statement M
 unite-spec =

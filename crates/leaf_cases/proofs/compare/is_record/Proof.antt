@@ -4,10 +4,10 @@ use Rattle.leaf_cases.proofs.compare.is_record.Statement.{statement}
 use Rattle.leaf_cases.proofs.compare.is_record.Tie as tie
 
 abbrev invariant-loop : tie.invariant-loop
-invariant-loop after before parts is-accepted i₀ i = 0 ≤ i
+invariant-loop after before parts is_accepted i₀ i = 0 ≤ i
 
 abbrev decreases-loop : tie.decreases-loop
-decreases-loop after before parts is-accepted i₀ i = 258 - i
+decreases-loop after before parts is_accepted i₀ i = 258 - i
 
 loop-holds : tie.Need-loop-init invariant-loop decreases-loop
 loop-holds c = search rules

@@ -4,10 +4,10 @@ use Rattle.walk_cases.proofs.compare.is_summed.Statement.{statement}
 use Rattle.walk_cases.proofs.compare.is_summed.Tie as tie
 
 abbrev invariant-loop : tie.invariant-loop
-invariant-loop is-accepted sums buffer i₀ i = 0 ≤ i
+invariant-loop is_accepted sums buffer i₀ i = 0 ≤ i
 
 abbrev decreases-loop : tie.decreases-loop
-decreases-loop is-accepted sums buffer i₀ i = 262 - i
+decreases-loop is_accepted sums buffer i₀ i = 262 - i
 
 loop-holds : tie.Need-loop-init invariant-loop decreases-loop
 loop-holds c = search rules

@@ -1,0 +1,11 @@
+-- The ones of a set are as many as its members.
+use Rattle.std.proofs.Common.{sym, ap, ◌∙◌, length}
+use Rattle.sets.specs.Sets.{members}
+use Rattle.sets.proofs.Members.{ones_members, members-empty}
+use Rattle.bits.proofs.size.Goals as goal
+
+pub returns-then-set-ne0 : goal.returns-then-set-ne0
+returns-then-set-ne0 c = ones_members 64 c.args.set c.ranges.set.fits
+
+pub returns : goal.returns
+returns c = sym (ap (λ s. length (members 64 s)) c.if-set-ne0.false ∙ ap length (members-empty 64))

@@ -3,7 +3,10 @@
 
 ghost use Rattle.output.specs.Printed.{Puts, numeral, pair_line, refused_line, built_line};
 
-use libc::{STDERR_FILENO, STDOUT_FILENO};
+// The descriptors of standard output, where the answer goes, and of standard error.
+const STANDARD_OUTPUT: i32 = 1;
+
+const STANDARD_ERROR: i32 = 2;
 
 // Puts bytes into the buffer from a place on, as many as there is room for. Answers the place behind them.
 pub fn put(out: &mut [u8], at: usize, bytes: &[u8]) -> usize
@@ -63,7 +66,7 @@ pub fn put_built(out: &mut [u8], at: usize, number: usize, value: usize) -> usiz
 
 // Writes the answer, and stops at the first write that fails: then it says so on standard error.
 pub fn write(answer: &[u8]) {
-    if !io::write_all(STDOUT_FILENO, answer) {
-        io::write_all(STDERR_FILENO, b"the answer could not be written\n");
+    if !io::write_all(STANDARD_OUTPUT, answer) {
+        io::write_all(STANDARD_ERROR, b"the answer could not be written\n");
     }
 }

@@ -102,10 +102,13 @@ def main():
         for o, n in sorted(turned.items()):
             print(f"{o} -> {n}")
         return
-    # A lemma that would have its function's name gets `_lem`; what src/ calls so keeps it.
+    # A lemma that would have its function's name gets `_lem`, where both stand in one file; what src/ calls so keeps it.
     in_source = set(re.findall(rf"\bfn (\w+)", "".join(open(p, encoding="utf-8").read() for p in glob.glob("crates/*/src/**/*.rt", recursive=True))))
+    words_of = [set(re.findall(rf"(?<![\w'])(?<!\w-){WORD}", open(p, encoding="utf-8").read())) for p in files()]
     for new, olds in together.items():
         first = next((o for o in olds if re.search(r"[a-z0-9][A-Z]", o)), olds[0])
+        if not any(len(ws & set(olds)) > 1 for ws in words_of):
+            continue
         for o in olds:
             if o != first and o not in in_source:
                 turned[o] = new + "_lem"

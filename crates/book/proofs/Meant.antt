@@ -23,17 +23,17 @@ module _ (symbols lengths picture : List ℕ) (n : ℕ) where
   abbrev r : Rules
   r = rules_in symbols lengths picture n
 
-  pub count_in_lem : count r ≡ n
+  pub count_in : count r ≡ n
   unfolding rules_in
-  count_in_lem = length_table n _
+  count_in = length_table n _
 
   pub size_in : (k : ℕ) → k < n → size r k ≡ get_or lengths k 0
   unfolding rules_in
   size_in k h = ap length (get_d_table n _ k [] h) ∙ length_table (get_or lengths k 0) _
 
-  pub symbol_in_lem : (k j : ℕ) → k < n → j < get_or lengths k 0 → symbol r k j ≡ get_or symbols (most_symbols * k + j) 0
+  pub symbol_in : (k j : ℕ) → k < n → j < get_or lengths k 0 → symbol r k j ≡ get_or symbols (most_symbols * k + j) 0
   unfolding rules_in
-  symbol_in_lem k j h i = ap (λ l. get_or l j 0) (get_d_table n _ k [] h) ∙ get_d_table (get_or lengths k 0) _ j 0 i
+  symbol_in k j h i = ap (λ l. get_or l j 0) (get_d_table n _ k [] h) ∙ get_d_table (get_or lengths k 0) _ j 0 i
 
 -- ---- the rules of a book
 

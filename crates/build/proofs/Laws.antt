@@ -21,7 +21,7 @@ use Rattle.meaning.specs.Rules.{fits_at}
 use Rattle.meaning.specs.Step.{goes_on, next_live, finished}
 use Rattle.book.specs.Limits.{most_rules, most_symbols}
 use Rattle.book.specs.Meant.{rules_in}
-use Rattle.book.proofs.Meant.{count_in_lem, size_in, symbol_in_lem}
+use Rattle.book.proofs.Meant.{count_in, size_in, symbol_in}
 use Rattle.build.specs.Sets.{Within, Short, Joins, IsWord, ended_in}
 
 -- ---- a set of rules, word by word
@@ -57,18 +57,18 @@ words-made n p i ws few all w = (set_of_where n p ws (omega (arith, w.long)) at,
 
 module _ (symbols lengths picture : List ℕ) (n : ℕ) where
   pub short_in : Within lengths n → Short (rules_in symbols lengths picture n)
-  short_in w = record { at = λ k h. rw (size_in symbols lengths picture n k (rw count_in_lem at h)) (w.short k) }
+  short_in w = record { at = λ k h. rw (size_in symbols lengths picture n k (rw count_in at h)) (w.short k) }
 
   pub ended_in_lem : (h s : ℕ) → ended_in lengths n h s ≡ finished (rules_in symbols lengths picture n) h s
   unfolding finished
-  ended_in_lem h s = rw (count_in_lem symbols lengths picture n) (set_where-ext n _ _ (λ k l. rw (size_in symbols lengths picture n k l)))
+  ended_in_lem h s = rw (count_in symbols lengths picture n) (set_where-ext n _ _ (λ k l. rw (size_in symbols lengths picture n k l)))
 
   -- the test of rule k in `extended_word`, where it is bit b of the word w
   pub goes_in : (h s c k w b : ℕ) {t : Bool} → has s k ≡ has w b → k < n → h < get_or lengths k 0 → Joins picture w h b (get_or symbols (most_symbols * k + h) 0) c t
       → goes_on (rules_in symbols lengths picture n) h s c k ≡ t
   unfolding fits_at
   goes_in h s c k w b e l i j =
-      rw (size_in symbols lengths picture n k l, symbol_in_lem symbols lengths picture n k h l i, lt-ltb h (get_or lengths k 0) i, e) (sym (j symbols lengths n))
+      rw (size_in symbols lengths picture n k l, symbol_in symbols lengths picture n k h l i, lt-ltb h (get_or lengths k 0) i, e) (sym (j symbols lengths n))
 
   pub stops_in : (h s c k : ℕ) → k < n → get_or lengths k 0 ≤ h → goes_on (rules_in symbols lengths picture n) h s c k ≡ false
   unfolding fits_at
@@ -76,7 +76,7 @@ module _ (symbols lengths picture : List ℕ) (n : ℕ) where
 
   pub onward_in : {x : ℕ} (h s c : ℕ) → x ≡ set_where n (goes_on (rules_in symbols lengths picture n) h s c) → x ≡ next_live (rules_in symbols lengths picture n) h s c
   unfolding next_live
-  onward_in h s c q = q ∙ rw (count_in_lem symbols lengths picture n)
+  onward_in h s c q = q ∙ rw (count_in symbols lengths picture n)
 
 -- ---- lists
 

@@ -24,7 +24,7 @@ use Rattle.meaning.proofs.Unique.{rows_or_more}
 use Rattle.meaning.proofs.Build.{Filling as Filled-to, Built, Via, Put, Row, place-root, place_none, place-there, place-full, place-made, built-start, built_fill, built_via, built-next, built_finish}
 use Rattle.build.specs.Sets.{Short}
 use Rattle.lent.specs.Lent.{zeros, zeroed}
-use Rattle.promised.specs.Promise.{number_of, value_of, Builds, accepted, no_room_lem}
+use Rattle.promised.specs.Promise.{number_of, value_of, Builds, accepted, no_room}
 use Rattle.build.specs.Course.{Others, five_of, number_at, columns_of, Stored, Added, Leads, RowsUsed, there, made, full, Place, root, none, some, Filling, begin, next, RowFilled, whole, short, Sane, RowBuilt, row_of, Building, start, grow, AllFilled, all, stuck, zero_others, Makes, rows, empty, refused}
 use Rattle.promised.specs.declared.Built.{Built as Answer}
 use Rattle.build.specs.declared.Placed.TheVariants as placed
@@ -240,5 +240,5 @@ builds_of {r} small goto t (rows ne f) =
       out-long = as_long t.out g.kept.out.long;
     })
 builds_of {r} small goto t (empty z) =
-    subst (λ (n : ℕ). Builds r (five_of goto t) (zeroed (five_of goto t)) 10 n) z (no_room_lem (subst⁻¹ (MoreThan (Same r)) z (none_lent r)))
-builds_of {r} small goto t (refused ne f) = no_room_lem (crowded_of small (zero_sane goto t ne) (λ i l. zero_at (length goto) i) (zero-blanks t) f)
+    subst (λ (n : ℕ). Builds r (five_of goto t) (zeroed (five_of goto t)) 10 n) z (no_room (subst⁻¹ (MoreThan (Same r)) z (none_lent r)))
+builds_of {r} small goto t (refused ne f) = no_room (crowded_of small (zero_sane goto t ne) (λ i l. zero_at (length goto) i) (zero-blanks t) f)

@@ -78,5 +78,5 @@ lawful s small a e =
           );
     }
 
-pub most_book_lem : MostBook
-most_book_lem = refl
+pub most_book : MostBook
+most_book = refl

@@ -13,7 +13,7 @@ lent_rows = record {
   live-less = refl;
   out-less = refl;
   no_row = refl;
-  one_row_lem = refl;
+  one_row = refl;
   two_rows_lem = refl;
 }
 

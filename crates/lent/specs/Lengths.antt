@@ -14,7 +14,7 @@ pub record LentRows : Type 0 where
   pub live-less : lent_of 1048576 4096 4096 16383 16384 ≡ 4095
   pub out-less : lent_of 1048576 4096 4096 16384 16383 ≡ 4095
   pub no_row : lent_of 255 9 9 36 36 ≡ 0
-  pub one_row_lem : lent_of 511 9 9 36 36 ≡ 1
+  pub one_row : lent_of 511 9 9 36 36 ≡ 1
   pub two_rows_lem : lent_of 512 9 9 11 36 ≡ 2
 
 -- two rows of zeros

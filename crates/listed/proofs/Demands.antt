@@ -24,7 +24,7 @@ use Rattle.answers.specs.declared.Walked.{Walked}
 use Rattle.answers.specs.declared.Walked.TheVariants.{Accepted, TooLong, BadRows, Damaged, NoRoom}
 use Rattle.answers.specs.Walked.{number_of}
 use Rattle.one_byte.specs.Move.{Lent}
-use Rattle.walk.specs.Walk.{run_of, reports_of, answer_of_lem, written, buffer_of}
+use Rattle.walk.specs.Walk.{run_of, reports_of, answer_of, written, buffer_of}
 use Rattle.listed.specs.Demands.{WalkCall, walk_answer, reports_after, WalkAnswers, WalkRefusals, WalkRefuses, Moves, OverTables, Demand2, Demand3, Matches}
 use Rattle.lent.proofs.HasRows.{rows-lent, no_rows, few-lent}
 use Rattle.one_byte.proofs.Laws.{move-lent}
@@ -45,7 +45,7 @@ untouched (BadRows n) reports old ne = refl
 untouched (Damaged at) reports old ne = refl
 untouched (NoRoom made) reports old ne = refl
 
-no_start : (held : List ℕ) (room : ℕ) (q : Counted) → (number_of (answer_of_lem held room q) ≢ 11) × (number_of (answer_of_lem held room q) ≢ 12)
+no_start : (held : List ℕ) (room : ℕ) (q : Counted) → (number_of (answer_of held room q) ≢ 11) × (number_of (answer_of held room q) ≢ 12)
 no_start held room (Read made falls row) = go (ltb room made)
   where
     go : (b : Bool) → let a = cond b (NoRoom made) (Accepted made falls (get_or held row 0)) in (number_of a ≢ 11) × (number_of a ≢ 12)
@@ -62,8 +62,8 @@ module _ (w : WalkCall) where
 
   refusals : WalkRefusals w
   refusals = record {
-    too_long_lem = λ l. let e : walk_answer w ≡ TooLong = rw (lt-ltb most_bytes (length w.text) l) in record { number_is = rw e; values_are = rw e };
-    bad_rows_lem = λ short h. let e = none_lent short h in record { number_is = rw e; values_are = rw e };
+    too_long = λ l. let e : walk_answer w ≡ TooLong = rw (lt-ltb most_bytes (length w.text) l) in record { number_is = rw e; values_are = rw e };
+    bad_rows = λ short h. let e = none_lent short h in record { number_is = rw e; values_are = rw e };
     run = λ short ne lends.
         rw (← walked w.tables w.n w.text (length w.reports) short (rows-lent w.tables w.n ne lends) refl refl) (no_start w.tables.held (length w.reports / 2) (run_of w.tables.goto w.tables.fall w.tables.out w.n w.text));
     untouched = untouched (walk_answer w) (reports_of w.tables.goto w.tables.fall w.tables.out w.n w.text) w.reports;
@@ -120,9 +120,9 @@ runs {r} {w} over rows = go (follow over.tables rows w.text over.bytes 0 (row_fi
 -- ---- the four ways of a walk
 
 data Way (r : Rules) (w : WalkCall) (m : ℕ) : Type 0 where
-  too_long_lem : most_bytes < length w.text → walk_answer w ≡ TooLong → Way r w m
-  bad_rows_lem : lent w.tables < w.n → walk_answer w ≡ BadRows w.n → Way r w m
-  no_room_lem : Run r w m → length w.reports / 2 < m → walk_answer w ≡ NoRoom m → Way r w m
+  too_long : most_bytes < length w.text → walk_answer w ≡ TooLong → Way r w m
+  bad_rows : lent w.tables < w.n → walk_answer w ≡ BadRows w.n → Way r w m
+  no_room : Run r w m → length w.reports / 2 < m → walk_answer w ≡ NoRoom m → Way r w m
   accepted : Run r w m → m ≤ length w.reports / 2 → walk_answer w ≡ Accepted m (fallbacks r w) (holding r w) → Way r w m
 
 module _ {r : Rules} {w : WalkCall} (over : OverTables r w) where
@@ -134,18 +134,18 @@ module _ {r : Rules} {w : WalkCall} (over : OverTables r w) where
       let room = length w.reports / 2 in
       let a = walked w.tables w.n w.text (length w.reports) short (rows-lent w.tables w.n (over_ne over) lends) refl x.run in
       elim (dec_lt room m) [
-        | yes l ↦ no_room_lem x l (sym a ∙ rw (lt-ltb room m l))
+        | yes l ↦ no_room x l (sym a ∙ rw (lt-ltb room m l))
         | no g ↦ let l : m ≤ room = omega arith in accepted x l (sym a ∙ rw (le-ltb room m l, x.holds))
       ]
 
   way : Way r w m
   way =
       elim (dec_lt most_bytes (length w.text)) [
-        | yes l ↦ too_long_lem l (rw (lt-ltb most_bytes (length w.text) l))
+        | yes l ↦ too_long l (rw (lt-ltb most_bytes (length w.text) l))
         | no g ↦
             let short : length w.text ≤ most_bytes = omega arith in
             elim (dec_lt (lent w.tables) w.n) [
-              | yes l ↦ bad_rows_lem l (none_lent w short (inr l))
+              | yes l ↦ bad_rows l (none_lent w short (inr l))
               | no h ↦ ran short (omega arith) (runs over (omega arith))
             ]
       ]
@@ -155,9 +155,9 @@ module _ {r : Rules} {w : WalkCall} (over : OverTables r w) where
       → Run r w m × (walk_answer w ≡ Accepted m (fallbacks r w) (holding r w)) × (k ≡ m) × (falls ≡ fallbacks r w) × (h ≡ holding r w)
   when a =
       elim way [
-        | too_long_lem _ e ↦ absurd (omega (arith, rw e at a.number_is))
-        | bad_rows_lem _ e ↦ absurd (omega (arith, rw e at a.number_is))
-        | no_room_lem _ _ e ↦ absurd (omega (arith, rw e at a.number_is))
+        | too_long _ e ↦ absurd (omega (arith, rw e at a.number_is))
+        | bad_rows _ e ↦ absurd (omega (arith, rw e at a.number_is))
+        | no_room _ _ e ↦ absurd (omega (arith, rw e at a.number_is))
         | accepted x _ e ↦ let v = rw e at a.values_are in (x, e, (cc), (cc), (cc))
       ]
 
@@ -166,9 +166,9 @@ module _ {r : Rules} {w : WalkCall} (over : OverTables r w) where
   undamaged : number_of (walk_answer w) ≡ 13 → ⊥
   undamaged z =
       elim way [
-        | too_long_lem _ e ↦ omega (arith, rw e at z)
-        | bad_rows_lem _ e ↦ omega (arith, rw e at z)
-        | no_room_lem _ _ e ↦ omega (arith, rw e at z)
+        | too_long _ e ↦ omega (arith, rw e at z)
+        | bad_rows _ e ↦ omega (arith, rw e at z)
+        | no_room _ _ e ↦ omega (arith, rw e at z)
         | accepted _ _ e ↦ omega (arith, rw e at z)
       ]
 
@@ -177,18 +177,18 @@ module _ {r : Rules} {w : WalkCall} (over : OverTables r w) where
       → (walk_answer w ≡ Accepted m (fallbacks r w) (holding r w)) × (reports_after w ≡ written (occurrences most_rules r w.text) w.reports)
   roomy short lends l =
       elim way [
-        | too_long_lem g _ ↦ absurd (omega arith)
-        | bad_rows_lem g _ ↦ absurd (omega arith)
-        | no_room_lem _ g _ ↦ absurd (omega arith)
+        | too_long g _ ↦ absurd (omega arith)
+        | bad_rows g _ ↦ absurd (omega arith)
+        | no_room _ g _ ↦ absurd (omega arith)
         | accepted x _ e ↦ (e, rw (e, x.reports))
       ]
 
   pub crowded : length w.text ≤ most_bytes → w.n ≤ lent w.tables → length w.reports / 2 < m → (walk_answer w ≡ NoRoom m) × (reports_after w ≡ w.reports)
   crowded short lends l =
       elim way [
-        | too_long_lem g _ ↦ absurd (omega arith)
-        | bad_rows_lem g _ ↦ absurd (omega arith)
-        | no_room_lem _ _ e ↦ (e, rw e)
+        | too_long g _ ↦ absurd (omega arith)
+        | bad_rows g _ ↦ absurd (omega arith)
+        | no_room _ _ e ↦ (e, rw e)
         | accepted _ g _ ↦ absurd (omega arith)
       ]
 
@@ -201,7 +201,7 @@ module _ {r : Rules} {w : WalkCall} (over : OverTables r w) where
     m = m;
     occurrences = (found over).lists;
     room = λ short lends l. let e = (roomy short lends l).0 in record { number_is = rw e; values_are = rw e };
-    no_room_lem = λ short lends l. let e = (crowded short lends l).0 in record { number_is = rw e; values_are = rw e };
+    no_room = λ short lends l. let e = (crowded short lends l).0 in record { number_is = rw e; values_are = rw e };
   }
 
   -- ---- demand 3

@@ -32,10 +32,10 @@ module _ {r : Rules} {b : Five} {n : ℕ} (tables : Tables r b n) (rows : n ≤ 
   at_below x = omega (arith, x.below, tables.count)
 
   -- one byte's move, by induction on the falls
-  move_in_lem : (k : ℕ) {t : List ℕ} {i : ℕ} (c h : ℕ) → i < k → At t i → c < 256
+  move_in : (k : ℕ) {t : List ℕ} {i : ℕ} (c h : ℕ) → i < k → At t i → c < 256
       → (e : ℕ) × (move_from b.goto b.fall n i c h ≡ Reached e (h + falls r t c)) × At (c ∷ t) e
-  move_in_lem zero c h l x byte = absurd (omega arith)
-  move_in_lem (suc k) {t} {i} c h l x byte =
+  move_in zero c h l x byte = absurd (omega arith)
+  move_in (suc k) {t} {i} c h l x byte =
       elim (look (tables_linked tables rows) byte (at_below x) x) [
         | ahead ne y z ↦ (
           goto_at b.goto i c,
@@ -43,7 +43,7 @@ module _ {r : Rules} {b : Five} {n : ℕ} (tables : Tables r b n) (rows : n ≤ 
           y,
         )
         | behind q d y same z ↦
-            let (e, m, w) = move_in_lem k c (h + 1) (omega arith) y byte in
+            let (e, m, w) = move_in k c (h + 1) (omega arith) y byte in
             let one : h + falls r t c ≡ h + 1 + falls r (shorter r t) c = omega arith in (
               e,
               first-fall b.goto b.fall n i c h refl refl q d ∙ rw one m,
@@ -53,7 +53,7 @@ module _ {r : Rules} {b : Five} {n : ℕ} (tables : Tables r b n) (rows : n ≤ 
 
   pub move : {t : List ℕ} {i : ℕ} (c : ℕ) → At t i → c < 256
       → (e : ℕ) × (move_from b.goto b.fall n i c 0 ≡ Reached e (falls r t c)) × At (c ∷ t) e
-  move {i} c x byte = let (e, m, y) = move_in_lem (suc i) c 0 (omega arith) x byte in (e, m ∙ rw zero-add, y)
+  move {i} c x byte = let (e, m, y) = move_in (suc i) c 0 (omega arith) x byte in (e, m ∙ rw zero-add, y)
 
   -- a run over what is left of a text: its last row, its reports, and its fallbacks
   pub record Followed (at : ℕ) (t : List ℕ) (i : ℕ) (text : List ℕ) : Type 0 where

@@ -9,14 +9,14 @@ use Rattle.book.specs.Meant.{rules_of}
 use Rattle.format.proofs.Sizes.{lawful}
 use Rattle.reader.proofs.Numbers.{numbered}
 use Rattle.lent.specs.Lent.{lent}
-use Rattle.promised.specs.Promise.{Builds, accepted, no_room_lem, Answers, builds, refuses}
+use Rattle.promised.specs.Promise.{Builds, accepted, no_room, Answers, builds, refuses}
 use Rattle.listed.specs.Whole.{Searched, Searches}
 use Rattle.listed.proofs.Demands.{matches}
 
 -- the buffers are as long as before, so the rows are lent
 pub built : {r : Rules} {old b : Five} {i v : ℕ} → Builds r old b i v → i ≡ 0 → Tables r b v × (v ≤ lent b)
 built (accepted l t long) z = (t, rw (long.goto_long, long.fall-long, long.held-long, long.live-long, long.out-long) l)
-built (no_room_lem m) z = absurd (omega arith)
+built (no_room m) z = absurd (omega arith)
 
 pub searches : Searches
 searches bytes byte old b x p z text reports t = go refl p z

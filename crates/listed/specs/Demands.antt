@@ -45,8 +45,8 @@ pub record WalkAnswers (w : WalkCall) (number : ℕ) (values : List ℕ) : Type 
 
 -- It is refused with 11 or 12 exactly where the text is too long or the rows are none or not lent, and no refusal changes the report buffer.
 pub record WalkRefusals (w : WalkCall) : Type 0 where
-  pub too_long_lem : most_bytes < length w.text → WalkAnswers w 11 (most_bytes ∷ [])
-  pub bad_rows_lem : length w.text ≤ most_bytes → (w.n ≡ 0) ⊎ (lent w.tables < w.n) → WalkAnswers w 12 (w.n ∷ [])
+  pub too_long : most_bytes < length w.text → WalkAnswers w 11 (most_bytes ∷ [])
+  pub bad_rows : length w.text ≤ most_bytes → (w.n ≡ 0) ⊎ (lent w.tables < w.n) → WalkAnswers w 12 (w.n ∷ [])
   pub run : length w.text ≤ most_bytes → w.n ≢ 0 → w.n ≤ lent w.tables → (number_of (walk_answer w) ≢ 11) × (number_of (walk_answer w) ≢ 12)
   pub untouched : number_of (walk_answer w) ≢ 0 → reports_after w ≡ w.reports
 
@@ -84,7 +84,7 @@ pub record Demand2 (r : Rules) (w : WalkCall) : Type 0 where
   pub occurrences : Lists (Occurs r w.text) list m
   pub room : length w.text ≤ most_bytes → w.n ≤ lent w.tables → m ≤ length w.reports / 2
       → WalkAnswers w 0 (m ∷ falls_in r (reverse w.text) ∷ held r (reverse w.text) ∷ [])
-  pub no_room_lem : length w.text ≤ most_bytes → w.n ≤ lent w.tables → length w.reports / 2 < m → WalkAnswers w 14 (m ∷ [])
+  pub no_room : length w.text ≤ most_bytes → w.n ≤ lent w.tables → length w.reports / 2 < m → WalkAnswers w 14 (m ∷ [])
 
 -- ---- demand 3
 

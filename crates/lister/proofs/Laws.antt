@@ -21,7 +21,7 @@ use Rattle.answers.specs.declared.Walked.{Walked}
 use Rattle.answers.specs.contracts.Walked.{the_type}
 use Rattle.answers.specs.declared.Walked.TheVariants.{Accepted, TooLong, BadRows, Damaged, NoRoom}
 use Rattle.answers.specs.Walked.{number_of, value_of}
-use Rattle.walk.specs.Walk.{run_of, reports_of, answer_of_lem, walk_of, written, buffer_of}
+use Rattle.walk.specs.Walk.{run_of, reports_of, answer_of, walk_of, written, buffer_of}
 use Rattle.lent.proofs.HasRows.{has-rows}
 use Rattle.walk.proofs.Laws.{Right, counted}
 use Rattle.walk.proofs.Room.{accepted-within}
@@ -38,7 +38,7 @@ Told (BadRows n) reports = Unit {0}
 Told (Damaged at) reports = Unit {0}
 Told (NoRoom made) reports = Unit {0}
 
-told-run : (n room : ℕ) (held reports : List ℕ) (x : Counted) → Right n 0 reports x → Told (answer_of_lem held room x) reports
+told-run : (n room : ℕ) (held reports : List ℕ) (x : Counted) → Right n 0 reports x → Told (answer_of held room x) reports
 told-run n room held reports (Read made falls row) h = go (ltb room made)
   where
     go : (q : Bool) → Told (cond q (NoRoom made) (Accepted made falls (get_or held row 0))) reports
@@ -55,7 +55,7 @@ told b n text space = go (ltb most_bytes (length text)) (has_rows b n) refl
     reports : List ℕ
     reports = reports_of b.goto b.fall b.out n text
 
-    go : (long rows : Bool) → rows ≡ has_rows b n → Told (cond long TooLong (cond rows (answer_of_lem b.held (space / 2) run) (BadRows n))) reports
+    go : (long rows : Bool) → rows ≡ has_rows b n → Told (cond long TooLong (cond rows (answer_of b.held (space / 2) run) (BadRows n))) reports
     go true rows e = tt
     go false true e = told-run n (space / 2) b.held reports run (counted b.goto b.fall b.out n text (omega (arith, (has-rows b n (sym e)).0)) refl refl)
     go false false e = tt

@@ -16,7 +16,7 @@ use lib.Seq.{get_or-append_seam}
 use borrow.Author.Tests.{eq-eqb, ne_eqb}
 use Rattle.rows.specs.Rows.{IsRow, HasRow, Ascending, IsRows, MoreThan}
 use Rattle.rows.specs.Unique.{Congruence}
-use Rattle.rows.proofs.Rows.{row_same, row_own, row_append, one_row_lem}
+use Rattle.rows.proofs.Rows.{row_same, row_own, row_append, one_row}
 use Rattle.rows.proofs.Build.{Partial, start, found, added, next, finish, crowded, length-snoc, row_new}
 use Rattle.meaning.specs.Rules.{Rules}
 use Rattle.meaning.specs.Standing.{Same, held, live, out}
@@ -46,7 +46,7 @@ module _ {r : Rules} {ts : List (List ℕ)} {x : Columns} (numbers : Numbers r t
   key_of_row asc i y = (
     numbers.held_is i y.below ∙ sym (same-held y.same),
     numbers.live_is i y.below ∙ sym (same_live y.same),
-    one_row_lem (congruence r) asc (fall_row (numbers.fall_is i y.below)) (row_same (congruence r) (same_sym (same-shorter y.same)) f),
+    one_row (congruence r) asc (fall_row (numbers.fall_is i y.below)) (row_same (congruence r) (same_sym (same-shorter y.same)) f),
   )
 
 -- ---- one row more
@@ -172,25 +172,25 @@ module _ {r : Rules} {ts : List (List ℕ)} {goto : ℕ → ℕ → ℕ} {via ro
     abbrev u : List ℕ
     u = c ∷ t
 
-    goes_on_lem : grows r t c ≡ true
-    goes_on_lem = grows_some r t c (rw (f.numbers.held_is s l, f.numbers.live_is s l) at some)
+    goes_on : grows r t c ≡ true
+    goes_on = grows_some r t c (rw (f.numbers.held_is s l, f.numbers.live_is s l) at some)
 
     on-goes : goes_on_at r ts s c ≡ true
     on-goes =
-        elim (eq-zero-or-pos s) [ inl z ↦ rw (eq-eqb s 0 z) | inr p ↦ rw (extends-grows r t c (some-held p), goes_on_lem, or-true) ]
+        elim (eq-zero-or-pos s) [ inl z ↦ rw (eq-eqb s 0 z) | inr p ↦ rw (extends-grows r t c (some-held p), goes_on, or-true) ]
 
     held_next : held r u ≡ x.held s + 1
-    held_next = grows-held r t c goes_on_lem ∙ rw (f.numbers.held_is s l) (sym (add-one (held r t)))
+    held_next = grows-held r t c goes_on ∙ rw (f.numbers.held_is s l) (sym (add-one (held r t)))
 
     live-next : live r u ≡ onward
-    live-next = grows-live r t c goes_on_lem ∙ rw (f.numbers.held_is s l, f.numbers.live_is s l)
+    live-next = grows-live r t c goes_on ∙ rw (f.numbers.held_is s l, f.numbers.live_is s l)
 
     -- the fall of the byte's standing
     fall-next : IsRow (Same r) ts (shorter r u) v
     fall-next =
         elim (eq-zero-or-pos s) [
-          | inl z ↦ rw (grows-shorter-first r t c goes_on_lem (root-held z), (f.leads c byte).first z) (row_empty asc top)
-          | inr p ↦ rw (grows-shorter r t c goes_on_lem (some-held p)) ((f.leads c byte).later p)
+          | inl z ↦ rw (grows-shorter-first r t c goes_on (root-held z), (f.leads c byte).first z) (row_empty asc top)
+          | inr p ↦ rw (grows-shorter r t c goes_on (some-held p)) ((f.leads c byte).later p)
         ]
 
     out-next : bit_or (finished r (x.held s + 1) onward) (x.out v) ≡ out r u

@@ -9,7 +9,7 @@ use native.Mathlib.Omega.{arith}
 use lib.ListN.{length, get_or, get_or-append}
 use Rattle.rows.proofs.Compare.{less, equal, more, order}
 use Rattle.sets.specs.Sets.{has, keep, those, members, reports as pairs}
-use Rattle.meaning.specs.Occurrences.{end_at_lem, rule_at, Listed, Earlier, Lists, OneList}
+use Rattle.meaning.specs.Occurrences.{end_at, rule_at, Listed, Earlier, Lists, OneList}
 
 pub lists_iff : {P Q : ℕ → ℕ → Type 0} {list : List ℕ} {m : ℕ} → ((e k : ℕ) → P e k ↔ Q e k) → Lists P list m → Lists Q list m
 lists_iff h l = record { listed = λ e k. (λ x. (h e k).0 ((l.listed e k).0 x), λ x. (l.listed e k).1 ((h e k).1 x)); ordered = l.ordered }
@@ -20,7 +20,7 @@ lists_none h = record { listed = λ e k. (λ (i, l, _, _). absurd (omega arith),
 -- ---- one report in front
 
 module _ (e k : ℕ) (list : List ℕ) where
-  end_next : (i : ℕ) → end_at_lem (e ∷ k ∷ list) (suc i) ≡ end_at_lem list i
+  end_next : (i : ℕ) → end_at (e ∷ k ∷ list) (suc i) ≡ end_at list i
   end_next i = let q : 2 * suc i ≡ suc (suc (2 * i)) = omega arith in rw q
 
   rule-next : (i : ℕ) → rule_at (e ∷ k ∷ list) (suc i) ≡ rule_at list i
@@ -39,7 +39,7 @@ module _ (e k : ℕ) (list : List ℕ) where
       back e' k' (inr x) = let (i, h, p, q) = (l.listed e' k').1 x in (suc i, omega arith, end_next i ∙ p, rule-next i ∙ q)
 
       ordered : (i j : ℕ) → i < j → j < suc m
-          → Earlier (end_at_lem (e ∷ k ∷ list) i) (rule_at (e ∷ k ∷ list) i) (end_at_lem (e ∷ k ∷ list) j) (rule_at (e ∷ k ∷ list) j)
+          → Earlier (end_at (e ∷ k ∷ list) i) (rule_at (e ∷ k ∷ list) i) (end_at (e ∷ k ∷ list) j) (rule_at (e ∷ k ∷ list) j)
       ordered i zero h g = absurd (omega arith)
       ordered zero (suc j) h g = rw (end_next j, rule-next j) (before _ _ ((l.listed _ _).0 (j, omega arith, refl, refl)))
       ordered (suc i) (suc j) h g = rw (end_next i, rule-next i, end_next j, rule-next j) (l.ordered i j (omega arith) (omega arith))
@@ -131,7 +131,7 @@ earlier-apart (inr (_, h)) p q = omega arith
 
 -- report i of one list is report j of the other
 abbrev SameAt : List ℕ → List ℕ → ℕ → ℕ → Type 0
-SameAt xs ys i j = (end_at_lem xs i ≡ end_at_lem ys j) × (rule_at xs i ≡ rule_at ys j)
+SameAt xs ys i j = (end_at xs i ≡ end_at ys j) × (rule_at xs i ≡ rule_at ys j)
 
 module _ {P : ℕ → ℕ → Type 0} {xs ys : List ℕ} {m n : ℕ} (a : Lists P xs m) (b : Lists P ys n) where
   found : (i : ℕ) → i < m → (j : ℕ) × (j < n) × SameAt xs ys i j
@@ -166,7 +166,7 @@ module _ {P : ℕ → ℕ → Type 0} {xs ys : List ℕ} {m n : ℕ} (a : Lists 
       (g, λ j l. elim (order j i) [ less d ↦ ih j d | equal d ↦ rw d s | more d ↦ absurd (omega arith) ])
 
 pub lists_one : {P : ℕ → ℕ → Type 0} {xs ys : List ℕ} {m n : ℕ} → Lists P xs m → Lists P ys n
-    → (m ≡ n) × ((i : ℕ) → i < m → (end_at_lem xs i ≡ end_at_lem ys i) × (rule_at xs i ≡ rule_at ys i))
+    → (m ≡ n) × ((i : ℕ) → i < m → (end_at xs i ≡ end_at ys i) × (rule_at xs i ≡ rule_at ys i))
 lists_one {m} {n} a b =
     let (l, same) = lists_same a b m (omega arith) in
     let (g, _) = lists_same b a n (omega arith) in

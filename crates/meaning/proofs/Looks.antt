@@ -45,8 +45,8 @@ module _ {r : Rules} {ts : List (List ℕ)} {goto : ℕ → ℕ → ℕ} {fall :
   pub look : {s : ℕ} {t : List ℕ} → s < b → IsRow (Same r) ts t s → Look r ts goto fall t s c
   look {s} {t} below x =
       elim (move r t c) [
-        | first q z ↦ goes_on_lem (rw (eq-eqb s 0 (row_zero k.ascending k.root s t x q))) z
-        | on p q z ↦ goes_on_lem (rw (sym (same-extends c x.same) ∙ q, or-true)) z
+        | first q z ↦ goes_on (rw (eq-eqb s 0 (row_zero k.ascending k.root s t x q))) z
+        | on p q z ↦ goes_on (rw (sym (same-extends c x.same) ∙ q, or-true)) z
         | back p q same z ↦
             let some : 0 < s = row_pos k.ascending k.root s t x p in
             let ne : s ≢ 0 = omega arith in
@@ -61,8 +61,8 @@ module _ {r : Rules} {ts : List (List ℕ)} {goto : ℕ → ℕ → ℕ} {fall :
       here : EntryAt r ts goto s c
       here = k.entry s c below byte
 
-      goes_on_lem : goes_on_at r ts s c ≡ true → falls r t c ≡ 0 → Look r ts goto fall t s c
-      goes_on_lem q z = let y = here.on q in ahead (λ e. omega (arith, y.below, k.few)) (row_same C (same-cons c x.same) y) z
+      goes_on : goes_on_at r ts s c ≡ true → falls r t c ≡ 0 → Look r ts goto fall t s c
+      goes_on q z = let y = here.on q in ahead (λ e. omega (arith, y.below, k.few)) (row_same C (same-cons c x.same) y) z
 
   -- what a row leads to, and by how many falls
   pub follows_row : {s n e : ℕ} → Follows goto fall c s n e → {t : List ℕ} → s < b → IsRow (Same r) ts t s → IsRow (Same r) ts (c ∷ t) e × (n ≡ falls r t c)

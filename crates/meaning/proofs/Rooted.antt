@@ -8,7 +8,7 @@ use native.Mathlib.Omega.{arith}
 use lib.ListN.{length, get_or}
 use Rattle.rows.specs.Rows.{IsRow, Ascending}
 use Rattle.rows.proofs.Order.{shorter as before-shorter}
-use Rattle.rows.proofs.Rows.{row_before, row_own, row_same, one_row_lem}
+use Rattle.rows.proofs.Rows.{row_before, row_own, row_same, one_row}
 use Rattle.meaning.specs.Rules.{Rules}
 use Rattle.meaning.specs.Standing.{Same, held}
 use Rattle.meaning.specs.Tables.{IsFall}
@@ -22,7 +22,7 @@ module _ {r : Rules} {ts : List (List ℕ)} (asc : Ascending (Same r) ts) (root 
   row_empty = record { below = root.0; same = rw root.1 (same_refl r []) }
 
   pub row_zero : (s : ℕ) (t : List ℕ) → IsRow (Same r) ts t s → held r t ≡ 0 → s ≡ 0
-  row_zero s t x h = one_row_lem (congruence r) asc x (row_same (congruence r) (held_none r t h) row_empty)
+  row_zero s t x h = one_row (congruence r) asc x (row_same (congruence r) (held_none r t h) row_empty)
 
   pub row_pos : (s : ℕ) (t : List ℕ) → IsRow (Same r) ts t s → 0 < held r t → 0 < s
   row_pos zero t x p = absurd (omega (arith, same-held x.same, same-held row_empty.same, held-nil r))

@@ -10,7 +10,7 @@ use native.Mathlib.Decide.{dec_lt}
 use lib.ListN.{length, get_or}
 use lib.Seq.{ext_get_or}
 use Rattle.rows.specs.Rows.{Ascending, MoreThan, AtMost}
-use Rattle.rows.proofs.Rows.{one_row_lem, unique}
+use Rattle.rows.proofs.Rows.{one_row, unique}
 use Rattle.rows.proofs.Exists.{exists}
 use Rattle.sets.specs.Table.{row_words, rules_at}
 use Rattle.sets.proofs.Table.{same_table}
@@ -31,7 +31,7 @@ module _ {r : Rules} {ts : List (List ℕ)} (asc : Ascending (Same r) ts) where
   one_goto x y i c k byte = go (goes_on_at r ts i c) (x.entry i c k byte) (y.entry i c k byte)
     where
       go : (b : Bool) {e e' : ℕ} → Entry r ts (get_or ts i []) c e b → Entry r ts (get_or ts i []) c e' b → e ≡ e'
-      go true a a' = one_row_lem (congruence r) asc (a.on refl) (a'.on refl)
+      go true a a' = one_row (congruence r) asc (a.on refl) (a'.on refl)
       go false a a' = a.back refl ∙ sym (a'.back refl)
 
 -- ---- place by place
@@ -67,7 +67,7 @@ module _ {r : Rules} {b b' : Five} {n : ℕ} (x : Tables r b n) (y : Tables r b'
         goto = same_list (256 * n) b.goto b'.goto a.goto x.rest.goto_rest y.rest.goto_rest goto_same i;
         fall = same_list n b.fall b'.fall a.fall x.rest.fall-rest y.rest.fall-rest
             (λ j l. let k : j < length x.texts = omega (arith, x.count) in
-            one_row_lem (congruence r) x.rows.ascending (fall_row (x.numbers.fall_is j k)) (fall_row (numbers'.fall_is j k))) i;
+            one_row (congruence r) x.rows.ascending (fall_row (x.numbers.fall_is j k)) (fall_row (numbers'.fall_is j k))) i;
         held = same_list n b.held b'.held a.held x.rest.held-rest y.rest.held-rest (by_row x.numbers.held_is numbers'.held_is) i;
         live = same_list (row_words * n) b.live b'.live a.live x.rest.live-rest y.rest.live-rest
             (same_table row_words n b.live b'.live wl wl' (by_row x.numbers.live_is numbers'.live_is)) i;

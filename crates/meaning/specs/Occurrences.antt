@@ -31,15 +31,15 @@ NoneFitsEmpty = (r : Rules) (k : ℕ) → ¬ FitsWhole r [] k
 -- ---- lists of reports
 
 -- The end and the rule of report i.
-abbrev pub end_at_lem : List ℕ → ℕ → ℕ
-end_at_lem reports i = get_or reports (2 * i) 0
+abbrev pub end_at : List ℕ → ℕ → ℕ
+end_at reports i = get_or reports (2 * i) 0
 
 abbrev pub rule_at : List ℕ → ℕ → ℕ
 rule_at reports i = get_or reports (2 * i + 1) 0
 
 -- (e, k) is one of the first m reports.
 abbrev pub Listed : List ℕ → ℕ → ℕ → ℕ → Type 0
-Listed reports m e k = (i : ℕ) × (i < m) × (end_at_lem reports i ≡ e) × (rule_at reports i ≡ k)
+Listed reports m e k = (i : ℕ) × (i < m) × (end_at reports i ≡ e) × (rule_at reports i ≡ k)
 
 -- By end, then by rule.
 abbrev pub Earlier : ℕ → ℕ → ℕ → ℕ → Type 0
@@ -48,9 +48,9 @@ Earlier e k e' k' = (e < e') ⊎ ((e ≡ e') × (k < k'))
 -- The first m reports are the pairs with P, each once and in order.
 pub record Lists (P : ℕ → ℕ → Type 0) (reports : List ℕ) (m : ℕ) : Type 0 where
   pub listed : (e k : ℕ) → Listed reports m e k ↔ P e k
-  pub ordered : (i j : ℕ) → i < j → j < m → Earlier (end_at_lem reports i) (rule_at reports i) (end_at_lem reports j) (rule_at reports j)
+  pub ordered : (i j : ℕ) → i < j → j < m → Earlier (end_at reports i) (rule_at reports i) (end_at reports j) (rule_at reports j)
 
 -- No two lists of the occurrences differ.
 abbrev pub OneList : Type 0
 OneList = (r : Rules) (text xs ys : List ℕ) (m n : ℕ) → Lists (Occurs r text) xs m → Lists (Occurs r text) ys n
-    → (m ≡ n) × ((i : ℕ) → i < m → (end_at_lem xs i ≡ end_at_lem ys i) × (rule_at xs i ≡ rule_at ys i))
+    → (m ≡ n) × ((i : ℕ) → i < m → (end_at xs i ≡ end_at ys i) × (rule_at xs i ≡ rule_at ys i))

@@ -6,7 +6,7 @@ use native.Mathlib.Omega.{arith}
 use lib.ListN.{length, get_or, take}
 use lib.Seq.{ext_get_or, get_or-take, length-take-le}
 use Rattle.rows.specs.Rows.{AtMost}
-use Rattle.rows.proofs.Rows.{one_row_lem, unique, not_both}
+use Rattle.rows.proofs.Rows.{one_row, unique, not_both}
 use Rattle.meaning.specs.Standing.{Same}
 use Rattle.meaning.specs.Tables.{Five, Numbers, columns, Tables}
 use Rattle.worked.specs.Books.{Written, Right}
@@ -19,7 +19,7 @@ use Rattle.format.specs.Format.{Meaning, refused, meaning_of}
 use Rattle.book.specs.Limits.{most_rows}
 use Rattle.book.specs.Meant.{rules_of}
 use Rattle.lent.specs.Lent.{lent, zeroed}
-use Rattle.promised.specs.Promise.{Builds, accepted, no_room_lem, Answers, refuses}
+use Rattle.promised.specs.Promise.{Builds, accepted, no_room, Answers, refuses}
 use Rattle.promised.proofs.AsBefore.{of_sound}
 use Rattle.numbers.specs.Cases.{found, cleared, tables, build, Holds}
 use Rattle.numbers.proofs.Books.{Means}
@@ -67,16 +67,16 @@ module _ (w : Written) (y : Right w) where
     fall_are l e =
         take_same b.fall w.fall (omega arith)
         (λ i h. let k : i < rows = omega arith in
-        one_row_lem (congruence w.book) y.rows.ascending (fall_row (numbers_are.fall_is i k)) (fall_row (y.numbers.fall_is i k)))
+        one_row (congruence w.book) y.rows.ascending (fall_row (numbers_are.fall_is i k)) (fall_row (y.numbers.fall_is i k)))
 
   builds-enough : {old b : Five} {i v : ℕ} → rows ≤ lent old → length w.held ≡ rows → length w.fall ≡ rows → Builds w.book old b i v
       → (i ≡ 0) × (v ≡ rows) × (take (length w.held) b.held ≡ w.held) × (take (length w.fall) b.fall ≡ w.fall)
   builds-enough l e f (accepted h t k) = (refl, rows_are t, held_are t (omega (arith, k.held-long)) e, fall_are t (omega (arith, k.fall-long)) f)
-  builds-enough l e f (no_room_lem m) = absurd (not_both (congruence w.book) (few l) m)
+  builds-enough l e f (no_room m) = absurd (not_both (congruence w.book) (few l) m)
 
   builds_fewer : {old b : Five} {i v : ℕ} → lent old < rows → Builds w.book old b i v → (i ≡ 10) × (v ≡ lent old) × (b ≡ zeroed old)
   builds_fewer l (accepted h t k) = absurd (omega (arith, rows_are t))
-  builds_fewer l (no_room_lem m) = (refl, refl, refl)
+  builds_fewer l (no_room m) = (refl, refl, refl)
 
 module _ {a : Content} {w : Written} {bytes : List ℕ} (e : Means bytes a) (y : Right w) (q : w.book ≡ rules_of a) where
   -- with rows enough

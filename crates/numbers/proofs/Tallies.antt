@@ -29,7 +29,7 @@ use Rattle.numbers.proofs.Walks.{is_small, small}
 pub refused : (profile : List ℕ) {i : ℕ} → length profile ≤ most_bytes → FirstBroken (lines_of profile) i → Holds (refusal profile 15 (start_of 0 (lines_of profile) i))
 refused profile {i} short broken b n buffer some lends places =
     let w : TallyCall = record { tables = b; n = n; profile = profile; sums = buffer } in
-    let a = (refuses w).bad_line_lem (record { short = short; some = some; lends = lends; places = places }) i broken in
+    let a = (refuses w).bad_line (record { short = short; some = some; lends = lends; places = places }) i broken in
     record { answers = a; found = (refuses w).untouched (λ z. omega (arith, a.number_is, z)) }
 
 -- ---- sums

@@ -10,7 +10,7 @@ use Rattle.meaning.specs.Tables.{Five}
 use Rattle.format.specs.Format.{Meaning}
 use Rattle.format.proofs.Numbers.{number_some}
 use Rattle.lent.specs.Lent.{zeroed, AsLong}
-use Rattle.promised.specs.Promise.{Builds, accepted, no_room_lem, Answers, builds, refuses}
+use Rattle.promised.specs.Promise.{Builds, accepted, no_room, Answers, builds, refuses}
 use Rattle.promised.specs.Buffers.{Cleared, ZeroPast, AfterBuild}
 use Rattle.promised.proofs.Exact.{not_ten}
 
@@ -50,7 +50,7 @@ built (accepted l t k) = record {
   };
   long = k;
 }
-built {old = old} (no_room_lem m) = record { found = λ some ten. absurd (ten refl); zeroes = λ z. all-zero old; past = λ z. absurd (omega arith); long = (all-zero old).long }
+built {old = old} (no_room m) = record { found = λ some ten. absurd (ten refl); zeroes = λ z. all-zero old; past = λ z. absurd (omega arith); long = (all-zero old).long }
 
 answered : {m : Meaning} {old b : Five} {i v : ℕ} → Answers old m b i v → After old b i v
 answered (builds p) = built p

@@ -20,7 +20,7 @@ use Rattle.format.specs.Format.{Meaning, means, refused, meaning_of}
 use Rattle.book.specs.Meant.{rules_of}
 use Rattle.format.proofs.Numbers.{number_some, refusal_of, is_refusal}
 use Rattle.lent.specs.Lent.{lent, AsLong}
-use Rattle.promised.specs.Promise.{number_of, value_of, Builds, accepted, no_room_lem, Answers, builds, refuses}
+use Rattle.promised.specs.Promise.{number_of, value_of, Builds, accepted, no_room, Answers, builds, refuses}
 use Rattle.promised.specs.Exact.{Crowded, Fitting, Exactly, RoomExactly, RowsOrMore, OfWords, OneOutcome}
 use Rattle.promised.specs.declared.Built.{Built}
 use Rattle.promised.specs.declared.Built.TheVariants.{Rows, NoRoom, Refused}
@@ -43,7 +43,7 @@ data Says (r : Rules) (n i v : ℕ) : Type 0 where
 
 says : {r : Rules} {old b : Five} {i v : ℕ} → Builds r old b i v → Says r (lent old) i v
 says (accepted l t k) = room refl (tables-few l t)
-says (no_room_lem m) = none refl refl m
+says (no_room m) = none refl refl m
 
 pub same_content : {a a' : Content} {m : Meaning} → m ≡ means a → m ≡ means a' → a ≡ a'
 same_content p q = cc
@@ -72,19 +72,19 @@ room_exactly c = go (verdict c.promise)
 
     by_says : (a : Content) → meaning_of c.bytes ≡ means a → Says (rules_of a) n (number_of c.answer) (value_of c.answer) → Exactly c
     by_says a e (room q f) = record {
-      no_room_lem = ((λ z. absurd (omega arith)), λ (y : Crowded c.bytes n). absurd (not_both (congruence (rules_of a)) f (rw (same_content y.sound e) at y.more)));
+      no_room = ((λ z. absurd (omega arith)), λ (y : Crowded c.bytes n). absurd (not_both (congruence (rules_of a)) f (rw (same_content y.sound e) at y.more)));
       room_value = λ z. absurd (omega arith);
       accepted = ((λ z. record { content = a; sound = e; rows = f }), λ y. q);
     }
     by_says a e (none q v m) = record {
-      no_room_lem = ((λ z. record { content = a; sound = e; more = m }), λ y. q);
+      no_room = ((λ z. record { content = a; sound = e; more = m }), λ y. q);
       room_value = λ z. v;
       accepted = ((λ z. absurd (omega arith)), λ (y : Fitting c.bytes n). absurd (not_both (congruence (rules_of a)) (rw (same_content y.sound e) at y.rows) m));
     }
 
     by_why : (why : Refusal) → meaning_of c.bytes ≡ refused why → number_of c.answer ≡ number why → Exactly c
     by_why why e q = record {
-      no_room_lem = ((λ z. absurd (not_ten why (sym q ∙ z))), λ (y : Crowded c.bytes n). not_refused y.sound e);
+      no_room = ((λ z. absurd (not_ten why (sym q ∙ z))), λ (y : Crowded c.bytes n). not_refused y.sound e);
       room_value = λ z. absurd (not_ten why (sym q ∙ z));
       accepted = ((λ z. absurd (omega (arith, (number_some why).0))), λ (y : Fitting c.bytes n). not_refused y.sound e);
     }
@@ -115,9 +115,9 @@ pub builds-same : {r : Rules} {old b b' : Five} {i i' v v' : ℕ} → OfWords b 
 builds-same {r} {b = b} w w' (accepted {n = n} l t k) (accepted {n = m} l' t' k') =
     let e : n ≡ m = one-count t t' in
     record { number_same = refl; value_same = e; buffers_same = one-five _ _ _ _ (subst (Tables r b) e t) t' (alike k k' w w') }
-builds-same {r} w w' (accepted l t k) (no_room_lem m) = absurd (not_both (congruence r) (tables-few l t) m)
-builds-same {r} w w' (no_room_lem m) (accepted l t k) = absurd (not_both (congruence r) (tables-few l t) m)
-builds-same w w' (no_room_lem m) (no_room_lem m') = record { number_same = refl; value_same = refl; buffers_same = refl }
+builds-same {r} w w' (accepted l t k) (no_room m) = absurd (not_both (congruence r) (tables-few l t) m)
+builds-same {r} w w' (no_room m) (accepted l t k) = absurd (not_both (congruence r) (tables-few l t) m)
+builds-same w w' (no_room m) (no_room m') = record { number_same = refl; value_same = refl; buffers_same = refl }
 
 answers-same : {m : Meaning} {old b b' : Five} {i i' v v' : ℕ} → OfWords b → OfWords b' → Answers old m b i v → Answers old m b' i' v' → Equal b b' i i' v v'
 answers-same w w' (builds p) (builds q) = builds-same w w' p q

@@ -32,7 +32,7 @@ pub record Fitting (bytes : List ℕ) (n : ℕ) : Type 0 where
 
 -- 10 is given exactly when more rows are needed than lent, with the rows lent; 0 exactly when they suffice
 pub record Exactly (c : BuildCall) : Type 0 where
-  pub no_room_lem : (number_of c.answer ≡ 10) ↔ Crowded c.bytes (lent c.old)
+  pub no_room : (number_of c.answer ≡ 10) ↔ Crowded c.bytes (lent c.old)
   pub room_value : number_of c.answer ≡ 10 → value_of c.answer ≡ lent c.old
   pub accepted : (number_of c.answer ≡ 0) ↔ Fitting c.bytes (lent c.old)
 

@@ -31,7 +31,7 @@ value_of (Refused why) = value why
 -- they are, and their tables; where there are more standings, 10 with the rows lent, and every entry 0.
 pub data Builds (r : Rules) (old : Five) : Five → ℕ → ℕ → Type 0 where
   accepted : {n : ℕ} {b : Five} → n ≤ lent old → Tables r b n → AsLong old b → Builds r old b 0 n
-  no_room_lem : MoreThan (Same r) (lent old) → Builds r old (zeroed old) 10 (lent old)
+  no_room : MoreThan (Same r) (lent old) → Builds r old (zeroed old) 10 (lent old)
 
 -- The same for what the book's bytes mean: a refused book gives the reader's number and value, and leaves the buffers as found.
 pub data Answers (old : Five) : Meaning → Five → ℕ → ℕ → Type 0 where

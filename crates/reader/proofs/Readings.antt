@@ -31,14 +31,14 @@ starts s q = record { content = nothing; held = q; rest = rest-start s }
 
 module _ (s : List ℕ) (at : ℕ) (h : at < length s) (r : Progress) (symbols lengths map : List ℕ) where
   module _ (a : Content) where
-    goes_on_lem : {e p n : ℕ} → Rest s at a → r ≡ Taken e p n → (o : Outcome) → field_at s at a ≡ o → Shows r symbols lengths map o → Reading s e symbols lengths map p n × (at < e)
-    goes_on_lem {e} {p} {n} m x (goes f b) k w =
+    goes_on : {e p n : ℕ} → Rest s at a → r ≡ Taken e p n → (o : Outcome) → field_at s at a ≡ o → Shows r symbols lengths map o → Reading s e symbols lengths map p n × (at < e)
+    goes_on {e} {p} {n} m x (goes f b) k w =
         let y : Taken f (length b.pictures) (length b.rules) ≡ Taken e p n = sym w.0 ∙ x in
         let z : f ≡ e = cc in
         let u : length b.pictures ≡ p = cc in
         let v : length b.rules ≡ n = cc in
         (rw (← z, ← u, ← v) (record { content = b; held = w.1; rest = rest_goes s at a m h k }), rw (← z) (ahead-goes s at a k).0)
-    goes_on_lem m x (stops y) k w = absurd (let z : ◌≡◌ {A = ℕ} 0 1 = cc in omega arith)
+    goes_on m x (stops y) k w = absurd (let z : ◌≡◌ {A = ℕ} 0 1 = cc in omega arith)
 
     halt : (x : Refusal) → Rest s at a → r ≡ Stopped x → (o : Outcome) → field_at s at a ≡ o → Shows r symbols lengths map o → meaning_of s ≡ refused x
     halt x m y (goes e b) k w = absurd (let z : ◌≡◌ {A = ℕ} 0 1 = cc in omega arith)
@@ -51,7 +51,7 @@ module _ (s : List ℕ) (at : ℕ) (h : at < length s) (r : Progress) (symbols l
     stepped = f R.content R.held
 
     pub turns : {e p n : ℕ} → r ≡ Taken e p n → Reading s e symbols lengths map p n × (at < e)
-    turns x = goes_on_lem R.content R.rest x (field_at s at R.content) refl stepped
+    turns x = goes_on R.content R.rest x (field_at s at R.content) refl stepped
 
     pub halts : {x : Refusal} → r ≡ Stopped x → meaning_of s ≡ refused x
     halts {x} y = halt R.content x R.rest y (field_at s at R.content) refl stepped

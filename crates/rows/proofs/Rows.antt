@@ -39,8 +39,8 @@ module _ {Same : List ℕ → List ℕ → Type 0} (S : Congruence Same) where
   row_append {ts} us r =
       let l = r.below in record { below = omega (arith, length-append ts us); same = rw get_or-append r.same }
 
-  pub one_row_lem : {ts : List (List ℕ)} → Ascending Same ts → {t : List ℕ} {i j : ℕ} → IsRow Same ts t i → IsRow Same ts t j → i ≡ j
-  one_row_lem a {t} {i} {j} p q =
+  pub one_row : {ts : List (List ℕ)} → Ascending Same ts → {t : List ℕ} {i j : ℕ} → IsRow Same ts t i → IsRow Same ts t j → i ≡ j
+  one_row a {t} {i} {j} p q =
       elim (order i j) [
         | less l ↦ absurd (distinct a i j l q.below (S.join (S.flip p.same) q.same))
         | equal e ↦ e
@@ -106,4 +106,4 @@ module _ {Same : List ℕ → List ℕ → Type 0} (S : Congruence Same) where
   unique {ts} {us} a b = ext_get_or [] ts us (omega (arith, at_most a b, at_most b a)) (λ i l. (agree a b i l).1)
 
 pub settles : Settles
-settles Same S = record { one_row_lem = one_row_lem S; root = root S; unique = unique S; not_both = not_both S }
+settles Same S = record { one_row = one_row S; root = root S; unique = unique S; not_both = not_both S }

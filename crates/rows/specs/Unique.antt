@@ -12,7 +12,7 @@ pub record Congruence (Same : List ℕ → List ℕ → Type 0) : Type 0 where
 
 pub record Settled (Same : List ℕ → List ℕ → Type 0) : Type 0 where
   -- a text has one row
-  pub one_row_lem : {ts : List (List ℕ)} → Ascending Same ts → {t : List ℕ} {i j : ℕ} → IsRow Same ts t i → IsRow Same ts t j → i ≡ j
+  pub one_row : {ts : List (List ℕ)} → Ascending Same ts → {t : List ℕ} {i j : ℕ} → IsRow Same ts t i → IsRow Same ts t j → i ≡ j
   -- row 0 is the empty text
   pub root : {ts : List (List ℕ)} → IsRows Same ts → (0 < length ts) × (get_or ts 0 [] ≡ [])
   -- no two lists are the rows

@@ -166,9 +166,9 @@ pub empty-cons : (ws : List ℕ) → eqb (set_of (0 ∷ ws)) 0 ≡ eqb (set_of w
 unfolding set_of
 empty-cons ws = eqb_both (set_of ws * 2 ^ 64 + 0) 0 (set_of ws) 0 (λ q. omega arith) (λ q. omega arith)
 
-pub not_empty_lem : (w : ℕ) (ws : List ℕ) → (w ≡ 0 → ⊥) → eqb (set_of (w ∷ ws)) 0 ≡ false
+pub not_empty : (w : ℕ) (ws : List ℕ) → (w ≡ 0 → ⊥) → eqb (set_of (w ∷ ws)) 0 ≡ false
 unfolding set_of
-not_empty_lem w ws h = ne_eqb (set_of ws * 2 ^ 64 + w) 0 (omega arith)
+not_empty w ws h = ne_eqb (set_of ws * 2 ^ 64 + w) 0 (omega arith)
 
 pub same-cons : (w : ℕ) (us vs : List ℕ) → eqb (set_of (w ∷ us)) (set_of (w ∷ vs)) ≡ eqb (set_of us) (set_of vs)
 unfolding set_of

@@ -15,8 +15,8 @@ module _ (f : ℕ → ℕ) where
   pub add_next : {s x i : ℕ} → s ≡ sum_below f i → x ≡ f i → s + x ≡ sum_below f (i + 1)
   add_next {s} {x} {i} e d = omega (arith, sum_next f i)
 
-  pub add_all_lem : {s i n : ℕ} → s ≡ sum_below f i → i ≡ n → s ≡ sum_below f n
-  add_all_lem e d = rw (← d) e
+  pub add_all : {s i n : ℕ} → s ≡ sum_below f i → i ≡ n → s ≡ sum_below f n
+  add_all e d = rw (← d) e
 
   -- taken away
   pub take_none : (w : ℕ) → w + sum_below f 0 ≡ w
@@ -36,7 +36,7 @@ pub capped : (totals : List ℕ) {s i : ℕ} → s ≡ sum_below (amount_at tota
 capped totals {s} {i} e l p h = omega (arith, sum_next (amount_at totals) i, sum_more (amount_at totals) (i + 1) all_places (omega arith))
 
 pub uncapped : (totals : List ℕ) {s i : ℕ} → s ≡ sum_below (amount_at totals) i → s ≤ limit → i ≡ all_places → s ≡ min (total_of totals) (limit + 1)
-uncapped totals {s} {i} e l d = let a : s ≡ total_of totals = add_all_lem (amount_at totals) e d in omega arith
+uncapped totals {s} {i} e l d = let a : s ≡ total_of totals = add_all (amount_at totals) e d in omega arith
 
 -- whether j stands before i, by their remainders
 pub before_by : (r : ℕ → ℕ) {own other j i : ℕ} {b : Bool} → own ≡ r i → other ≡ r j → b ≡ (ltb own other || (eqb other own && ltb j i)) → b ≡ stands_before r j i

@@ -89,12 +89,12 @@ module _ (w : TallyCall) where
 
   -- ---- before the lines
 
-  too_long_lem : most_bytes < length w.profile → TallyAnswers w 11 most_bytes
-  too_long_lem l = answers {a = TooLong} (rw (lt-ltb most_bytes (length w.profile) l))
+  too_long : most_bytes < length w.profile → TallyAnswers w 11 most_bytes
+  too_long l = answers {a = TooLong} (rw (lt-ltb most_bytes (length w.profile) l))
 
-  bad_rows_lem : length w.profile ≤ most_bytes → (w.n ≡ 0) ⊎ (lent w.tables < w.n) → TallyAnswers w 12 w.n
-  bad_rows_lem short (inl q) = answers {a = BadRows w.n} (rw (le-ltb most_bytes (length w.profile) short, no_rows w.tables w.n q))
-  bad_rows_lem short (inr l) =
+  bad_rows : length w.profile ≤ most_bytes → (w.n ≡ 0) ⊎ (lent w.tables < w.n) → TallyAnswers w 12 w.n
+  bad_rows short (inl q) = answers {a = BadRows w.n} (rw (le-ltb most_bytes (length w.profile) short, no_rows w.tables w.n q))
+  bad_rows short (inr l) =
       let ne : w.n ≢ 0 = omega arith in
       answers {a = BadRows w.n} (rw (le-ltb most_bytes (length w.profile) short, few-lent w.tables w.n ne l))
 
@@ -120,14 +120,14 @@ module _ (w : TallyCall) where
   start : Start
   start =
       elim (dec_lt most_bytes (length w.profile)) [
-        | yes l ↦ refused_with (too_long_lem l) (λ z. omega arith) (λ z. omega arith)
+        | yes l ↦ refused_with (too_long l) (λ z. omega arith) (λ z. omega arith)
         | no g ↦
             let short : length w.profile ≤ most_bytes = omega arith in
             elim (dec_lt 0 w.n) [
-              | no h ↦ refused_with (bad_rows_lem short (inl (omega arith))) (λ z. omega arith) (λ z. omega arith)
+              | no h ↦ refused_with (bad_rows short (inl (omega arith))) (λ z. omega arith) (λ z. omega arith)
               | yes p ↦
                   elim (dec_lt (lent w.tables) w.n) [
-                    | yes l ↦ refused_with (bad_rows_lem short (inr l)) (λ z. omega arith) (λ z. omega arith)
+                    | yes l ↦ refused_with (bad_rows short (inr l)) (λ z. omega arith) (λ z. omega arith)
                     | no h ↦ start-rows short (omega arith) (omega arith)
                   ]
             ]
@@ -159,10 +159,10 @@ module _ (w : TallyCall) where
 
   refusals : TallyRefusals w
   refusals = record {
-    too_long_lem = too_long_lem;
-    bad_rows_lem = bad_rows_lem;
+    too_long = too_long;
+    bad_rows = bad_rows;
     few-sums = few-sums;
-    bad_line_lem = λ x i b. answers (answer_is x (broken_at w.profile i b));
+    bad_line = λ x i b. answers (answer_is x (broken_at w.profile i b));
     damaged = λ x s i j c f. walks_answer x s (lost_at w x i j c f);
     accepted = λ x s h. walks_answer x s (none_lost w x h);
     sums = sums-told start;

@@ -30,7 +30,7 @@ use Rattle.lines.proofs.First.{pass_through}
 use Rattle.lines.proofs.Bytes.{EachBytes, lines-bytes, frames-bytes}
 use Rattle.summed.specs.Totals.{once, part_of, total_where, ends_from, occurs_in}
 use Rattle.tally.proofs.Adding.{add_members}
-use Rattle.tally.proofs.Walks.{frames_pass, line_adds_lem, line_length}
+use Rattle.tally.proofs.Walks.{frames_pass, line_adds, line_length}
 
 -- ---- sums, whatever lies behind a move
 
@@ -52,7 +52,7 @@ module _ (move : ℕ → ℕ → Moved) (rules : ℕ → ℕ) (k : ℕ) (small :
 
   line_part : (line sums : List ℕ) → k < length sums → get_or (line_sums move rules line sums) k 0 ≡ get_or sums k 0 + once reporting (count_in line) (frames_in line)
   line_part line sums h =
-      rw (line_adds_lem move rules line sums) (add_members (count_in line) most_rules (rules_over move rules (frames_in line)) k sums small h)
+      rw (line_adds move rules line sums) (add_members (count_in line) most_rules (rules_over move rules (frames_in line)) k sums small h)
       ∙ ap (λ m. get_or sums k 0 + m) (frames-once (count_in line) (frames_in line))
 
   lines-part : (ls : List (List ℕ)) (sums : List ℕ) → k < length sums → get_or (sums_over move rules ls sums) k 0 ≡ get_or sums k 0 + sum_over (part_of reporting) ls

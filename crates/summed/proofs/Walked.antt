@@ -66,12 +66,12 @@ module _ (b : Five) (n : ℕ) (lends : n ≤ lent b) where
       go (Reached to f) w ih = let q : base + at + 1 ≡ base + (at + 1) = omega arith in rw q (ih to (falls + f) (made + length (reported b.out to)) w)
       go Lost w ih = refl
 
-  rules_are_lem : (k : ℕ) → k < most_rules → (frame : List ℕ) (at row : ℕ) → row < n
+  rules_are : (k : ℕ) → k < most_rules → (frame : List ℕ) (at row : ℕ) → row < n
       → among k (rules_reported (reporting at row frame)) ≡ has (rules_from (move_by b n) (rules_at b.out) row frame) k
   unfolding rules_from reports_from rules_reported among
-  rules_are_lem k small [] at row l = sym (has-empty k)
-  rules_are_lem k small (c ∷ frame) at row l =
-      rw (move_is b n lends row c l) (go (moving row c) (move-within b.goto b.fall n row c 0) (λ to h. rules_are_lem k small frame (at + 1) to h))
+  rules_are k small [] at row l = sym (has-empty k)
+  rules_are k small (c ∷ frame) at row l =
+      rw (move_is b n lends row c l) (go (moving row c) (move-within b.goto b.fall n row c 0) (λ to h. rules_are k small frame (at + 1) to h))
     where
       go : (m : Moved) → Within n m → ((to : ℕ) → to < n → among k (rules_reported (reporting (at + 1) to frame)) ≡ has (rules_from (move_by b n) (rules_at b.out) to frame) k)
           → among k (rules_reported (on_move m (λ to more. pairs (at + 1) (reported b.out to) ++ reporting (at + 1) to frame) []))
@@ -93,4 +93,4 @@ module _ (b : Five) (n : ℕ) (lends : n ≤ lent b) where
 
     pub frame_reports : (k : ℕ) → k < most_rules → reports_in b n k frame ≡ has (frame_rules (move_by b n) (rules_at b.out) frame) k
     unfolding frame_rules
-    frame_reports k small = rules_are_lem k small frame 0 0 (omega arith)
+    frame_reports k small = rules_are k small frame 0 0 (omega arith)

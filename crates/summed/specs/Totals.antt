@@ -103,10 +103,10 @@ module _ (test : List ℕ → Bool) where
 -- It is refused with 11, 12, 16, 15 and 13 in that order, exactly where the paper says; accepted, sum k is the total of the counts of the lines with a
 -- frame whose walk reports rule k; no refusal changes the sums, and no place past the sums is written.
 pub record TallyRefusals (w : TallyCall) : Type 0 where
-  pub too_long_lem : most_bytes < length w.profile → TallyAnswers w 11 most_bytes
-  pub bad_rows_lem : length w.profile ≤ most_bytes → (w.n ≡ 0) ⊎ (lent w.tables < w.n) → TallyAnswers w 12 w.n
+  pub too_long : most_bytes < length w.profile → TallyAnswers w 11 most_bytes
+  pub bad_rows : length w.profile ≤ most_bytes → (w.n ≡ 0) ⊎ (lent w.tables < w.n) → TallyAnswers w 12 w.n
   pub few-sums : length w.profile ≤ most_bytes → w.n ≢ 0 → w.n ≤ lent w.tables → length w.sums < most_rules → TallyAnswers w 16 (length w.sums)
-  pub bad_line_lem : Ready w → (i : ℕ) → FirstBroken (lines_of w.profile) i → TallyAnswers w 15 (start_of 0 (lines_of w.profile) i)
+  pub bad_line : Ready w → (i : ℕ) → FirstBroken (lines_of w.profile) i → TallyAnswers w 15 (start_of 0 (lines_of w.profile) i)
   pub damaged : Ready w → AllSound (lines_of w.profile) → (i j x : ℕ) → FirstLost w i j x
       → TallyAnswers w 13 (start_of 0 (lines_of w.profile) i + start_of 0 (frames_in (get_or (lines_of w.profile) i [])) j + x)
   pub accepted : Ready w → AllSound (lines_of w.profile) → NoneLost w → TallyAnswers w 0 0

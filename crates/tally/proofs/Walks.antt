@@ -94,9 +94,9 @@ module _ (move : ℕ → ℕ → Moved) (rules : ℕ → ℕ) where
   -- ---- lines
 
   -- by the line's count and its frames, of which one that breaks the rules has none
-  pub line_adds_lem : (line sums : List ℕ) → line_sums move rules line sums ≡ add_all (count_in line) (members most_rules (rules_over move rules (frames_in line))) sums
+  pub line_adds : (line sums : List ℕ) → line_sums move rules line sums ≡ add_all (count_in line) (members most_rules (rules_over move rules (frames_in line))) sums
   unfolding line_sums stack_rules rules_over add_all
-  line_adds_lem line sums = go (line_of line)
+  line_adds line sums = go (line_of line)
     where
       go : (l : Line) → on_line l (λ stack count. add_all count (members most_rules (stack_rules move rules (take stack line))) sums) sums
           ≡ add_all (on_line l (λ stack count. count) 0) (members most_rules (rules_over move rules (on_line l (λ stack count. frames_of (take stack line)) []))) sums
@@ -106,10 +106,10 @@ module _ (move : ℕ → ℕ → Moved) (rules : ℕ → ℕ) where
   pub line_room : (a b : ℕ) (line sums : List ℕ) → most_rules + b ≤ a → Room a sums → Room b (line_sums move rules line sums)
   line_room a b line sums h r =
       let set = rules_over move rules (frames_in line) in
-      rw (line_adds_lem line sums) (room_add (count_in line) a b (members most_rules set) sums (count_right line).0 (omega (arith, members-le most_rules set)) r)
+      rw (line_adds line sums) (room_add (count_in line) a b (members most_rules set) sums (count_right line).0 (omega (arith, members-le most_rules set)) r)
 
   pub line_length : (line sums : List ℕ) → length (line_sums move rules line sums) ≡ length sums
-  line_length line sums = rw (line_adds_lem line sums) (length_add (count_in line) (members most_rules (rules_over move rules (frames_in line))) sums)
+  line_length line sums = rw (line_adds line sums) (length_add (count_in line) (members most_rules (rules_over move rules (frames_in line))) sums)
 
   over-length : (ls : List (List ℕ)) (sums : List ℕ) → length (sums_over move rules ls sums) ≡ length sums
   unfolding sums_over

@@ -86,15 +86,15 @@ module _ (w : AddCall) where
   full : most_profiles ≤ w.old.profiles → AddAnswers w 21 most_profiles
   full h = answers {a = Full} (is_full w.tables w.n w.profile w.old h)
 
-  too_long_lem : w.old.profiles < most_profiles → most_bytes < length w.profile → AddAnswers w 11 most_bytes
-  too_long_lem h l = answers {a = TooLong} (is_long w.tables w.n w.profile w.old h l)
+  too_long : w.old.profiles < most_profiles → most_bytes < length w.profile → AddAnswers w 11 most_bytes
+  too_long h l = answers {a = TooLong} (is_long w.tables w.n w.profile w.old h l)
 
   rowless : w.old.profiles < most_profiles → length w.profile ≤ most_bytes → has_rows w.tables w.n ≡ false → AddAnswers w 12 w.n
   rowless h short e = answers {a = BadRows w.n} (is_rowless w.tables w.n w.profile w.old h short e)
 
-  bad_rows_lem : w.old.profiles < most_profiles → length w.profile ≤ most_bytes → (w.n ≡ 0) ⊎ (lent w.tables < w.n) → AddAnswers w 12 w.n
-  bad_rows_lem h short (inl q) = rowless h short (no_rows w.tables w.n q)
-  bad_rows_lem h short (inr l) = rowless h short (few-lent w.tables w.n (omega arith) l)
+  bad_rows : w.old.profiles < most_profiles → length w.profile ≤ most_bytes → (w.n ≡ 0) ⊎ (lent w.tables < w.n) → AddAnswers w 12 w.n
+  bad_rows h short (inl q) = rowless h short (no_rows w.tables w.n q)
+  bad_rows h short (inr l) = rowless h short (few-lent w.tables w.n (omega arith) l)
 
   -- ---- by the passes
 
@@ -156,9 +156,9 @@ module _ (w : AddCall) where
 pub add_refuses : AddRefuses
 add_refuses w = record {
   full = full w;
-  too_long_lem = too_long_lem w;
-  bad_rows_lem = bad_rows_lem w;
-  bad_line_lem = λ x i b. answers w (answer_is w x (broken_at w.profile i b) refl);
+  too_long = too_long w;
+  bad_rows = bad_rows w;
+  bad_line = λ x i b. answers w (answer_is w x (broken_at w.profile i b) refl);
   damaged = λ x s i c f. answers w (answer_is w x (checked w.profile s) (fails_at w x i c f));
   past = λ x s h l. through w x s (none_fails w x h) (lt-ltb limit (whole w) l);
   accepted = λ x s h l. through w x s (none_fails w x h) (le-ltb limit (whole w) l);

@@ -150,7 +150,7 @@ passing profile old x over found g k p e =
 breaking : (profile : List ℕ) {i : ℕ} → length profile ≤ most_bytes → FirstBroken (lines_of profile) i → LeafHolds (breaks profile 15 (start_of 0 (lines_of profile) i))
 breaking profile {i} short broken b n old some lends room =
     let w : AddCall = record { tables = b; n = n; profile = profile; old = old } in
-    let a = (add_refuses w).bad_line_lem (record { few = room; short = short; some = some; lends = lends }) i broken in
+    let a = (add_refuses w).bad_line (record { few = room; short = short; some = some; lends = lends }) i broken in
     record { answers = a; unaltered = (add_refuses w).unaltered (λ z. omega (arith, a.number_is, z)) }
 
 filling : LeafHolds (full 1024 21 1024)
@@ -168,13 +168,13 @@ unsharing t over =
 longer : LeafHolds (long 1048577 11 1048576)
 longer b n profile old e room =
     let w : AddCall = record { tables = b; n = n; profile = profile; old = old } in
-    let a = (add_refuses w).too_long_lem room (omega arith) in
+    let a = (add_refuses w).too_long room (omega arith) in
     record { answers = a; unaltered = (add_refuses w).unaltered (λ z. omega (arith, a.number_is, z)) }
 
 rowless : (n : ℕ) → LeafHolds (rows n 12 n)
 rowless n b profile old e short room =
     let w : AddCall = record { tables = b; n = n; profile = profile; old = old } in
-    let a = (add_refuses w).bad_rows_lem room short (none_of n) in
+    let a = (add_refuses w).bad_rows room short (none_of n) in
     record { answers = a; unaltered = (add_refuses w).unaltered (λ z. omega (arith, a.number_is, z)) }
   where
     none_of : (n : ℕ) → (n ≡ 0) ⊎ (lent b < n)
@@ -198,9 +198,9 @@ second_broken = record { below = omega arith; broken = refl; before = before }
 abbrev to : ℕ → ℕ → Filed
 to p k = record { place = p; count = k }
 
-pub leaf_cases_lem : LeafCasesHold
+pub leaf_cases : LeafCasesHold
 unfolding is_bytes are_sound below split last_from number_from count_of line_of start_of those fits fits_all family_in sum_over sum_below table
-leaf_cases_lem =
+leaf_cases =
     also (adding six_leaves empty_totals (to 1 3 ∷ to 0 2 ∷ to 2 5 ∷ to 256 7 ∷ to 256 11 ∷ to 256 13 ∷ []) refl refl (record { files = refl; totals = tt; most = refl }) shares_41)
     (also (adding three_leaves empty_totals (to 1 4 ∷ to 256 4 ∷ to 0 1 ∷ []) refl refl (record { files = refl; totals = tt; most = refl }) shares_9)
     (also (adding three_leaves (four_totals 2 3 5 0 31 1) (to 1 4 ∷ to 256 4 ∷ to 0 1 ∷ []) refl refl (record { files = refl; totals = tt; most = refl }) shares_50)

@@ -135,7 +135,7 @@ module _ {r : Rules} (w : AddCall) (tables : Tables r w.tables w.n) (lends : w.n
           | no g ↦ other (x.full (omega arith)) (λ z. omega arith)
           | yes room ↦
               elim (dec_lt most_bytes (length w.profile)) [
-                | yes l ↦ other (x.too_long_lem room l) (λ z. omega arith)
+                | yes l ↦ other (x.too_long room l) (λ z. omega arith)
                 | no g ↦ none_damaged w (begins room (omega arith)) none_fails
               ]
         ]

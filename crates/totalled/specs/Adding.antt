@@ -94,9 +94,9 @@ pub record Begins (w : AddCall) : Type 0 where
 -- counts of its lines more, and there is one profile more.
 pub record AddRefusals (w : AddCall) : Type 0 where
   pub full : most_profiles ≤ w.old.profiles → AddAnswers w 21 most_profiles
-  pub too_long_lem : w.old.profiles < most_profiles → most_bytes < length w.profile → AddAnswers w 11 most_bytes
-  pub bad_rows_lem : w.old.profiles < most_profiles → length w.profile ≤ most_bytes → (w.n ≡ 0) ⊎ (lent w.tables < w.n) → AddAnswers w 12 w.n
-  pub bad_line_lem : Begins w → (i : ℕ) → FirstBroken (lines_of w.profile) i → AddAnswers w 15 (start_of 0 (lines_of w.profile) i)
+  pub too_long : w.old.profiles < most_profiles → most_bytes < length w.profile → AddAnswers w 11 most_bytes
+  pub bad_rows : w.old.profiles < most_profiles → length w.profile ≤ most_bytes → (w.n ≡ 0) ⊎ (lent w.tables < w.n) → AddAnswers w 12 w.n
+  pub bad_line : Begins w → (i : ℕ) → FirstBroken (lines_of w.profile) i → AddAnswers w 15 (start_of 0 (lines_of w.profile) i)
   pub damaged : Begins w → AllSound (lines_of w.profile) → (i x : ℕ) → FirstFails w i x
       → AddAnswers w 13 (start_of 0 (lines_of w.profile) i + leaf_from (line_at w i) + x)
   pub past : Begins w → AllSound (lines_of w.profile) → NoneFails w → limit < whole_in w.old + counts w.profile → AddAnswers w 20 limit

@@ -21,7 +21,7 @@ use Rattle.one_byte.specs.Move.{move_from, on_move}
 use Rattle.one_byte.proofs.Laws.{Within, move-within}
 use Rattle.walk.specs.declared.Counted.{Counted}
 use Rattle.walk.specs.declared.Counted.TheVariants.{Read, Stopped}
-use Rattle.walk.specs.Walk.{reported, run_from, run_of, reports_from, reports_of, written, answer_of_lem, walk_of}
+use Rattle.walk.specs.Walk.{reported, run_from, run_of, reports_from, reports_of, written, answer_of, walk_of}
 
 -- ---- a run, byte by byte
 
@@ -101,5 +101,5 @@ stored_none l (x ∷ xs) i h = absurd (omega arith)
 module _ (b : Five) (n : ℕ) where
   -- where the run r is q
   pub walked : (text : List ℕ) (space : ℕ) {r q : Counted} → length text ≤ most_bytes → has_rows b n ≡ true
-      → r ≡ run_of b.goto b.fall b.out n text → r ≡ q → answer_of_lem b.held (space / 2) q ≡ walk_of b n text space
+      → r ≡ run_of b.goto b.fall b.out n text → r ≡ q → answer_of b.held (space / 2) q ≡ walk_of b n text space
   walked text space x y p q = rw (← q, p) (rw (le-ltb most_bytes (length text) x, y))

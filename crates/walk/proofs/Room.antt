@@ -10,7 +10,7 @@ use lib.ListN.{length}
 use borrow.Author.Tests.{lt-ltb, le-ltb}
 use Rattle.book.specs.Limits.{most_bytes}
 use Rattle.lent.specs.Lent.{five, has_rows}
-use Rattle.walk.specs.Walk.{run_of, answer_of_lem, walk_of}
+use Rattle.walk.specs.Walk.{run_of, answer_of, walk_of}
 use Rattle.walk.specs.declared.Counted.{Counted}
 use Rattle.walk.specs.declared.Counted.TheVariants.{Read, Stopped}
 use Rattle.answers.specs.declared.Walked.{Walked}
@@ -24,7 +24,7 @@ Within (BadRows n) places = Unit {0}
 Within (Damaged at) places = Unit {0}
 Within (NoRoom made) places = Unit {0}
 
-answer_within : (held : List ℕ) (space : ℕ) (x : Counted) → Within (answer_of_lem held (space / 2) x) space
+answer_within : (held : List ℕ) (space : ℕ) (x : Counted) → Within (answer_of held (space / 2) x) space
 answer_within held space (Read made falls row) =
     elim (dec_lt (space / 2) made) [
       | yes l ↦ rw (lt-ltb (space / 2) made l) tt
@@ -38,7 +38,7 @@ pub accepted-within :
 accepted-within goto fall held live out text n {space} {made = made} p e q =
     subst (λ k. 2 * made ≤ k) (sym p) (subst (λ r. Within r space) (sym e ∙ q) (go (ltb most_bytes (length text)) (has_rows (five goto fall held live out) n)))
   where
-    go : (long rows : Bool) → Within (cond long TooLong (cond rows (answer_of_lem held (space / 2) (run_of goto fall out n text)) (BadRows n))) space
+    go : (long rows : Bool) → Within (cond long TooLong (cond rows (answer_of held (space / 2) (run_of goto fall out n text)) (BadRows n))) space
     go true rows = tt
     go false true = answer_within held space (run_of goto fall out n text)
     go false false = tt

@@ -18,7 +18,7 @@ use Rattle.answers.specs.declared.Walked.TheVariants.{Accepted, TooLong, BadRows
 use Rattle.answers.specs.Walked.{number_of, value_of}
 use Rattle.walk.specs.declared.Counted.{Counted}
 use Rattle.walk.specs.declared.Counted.TheVariants.{Read, Stopped}
-use Rattle.walk.specs.Walk.{run_of, answer_of_lem, walk_of}
+use Rattle.walk.specs.Walk.{run_of, answer_of, walk_of}
 use Rattle.walk.proofs.Laws.{walked}
 
 -- f of the row where a run ends, or g of the byte where it stops
@@ -36,7 +36,7 @@ module _ {A : Type 0} (z : A) (g : ℕ → A) where
   on_walk (BadRows m) = z
 
   -- the walk's answer, with no room
-  on_answer : (held : List ℕ) (q : Counted) → on_run q (λ row. z) g ≡ on_walk (answer_of_lem held (0 / 2) q)
+  on_answer : (held : List ℕ) (q : Counted) → on_run q (λ row. z) g ≡ on_walk (answer_of held (0 / 2) q)
   on_answer held (Read made falls row) = go (ltb (0 / 2) made)
     where
       go : (t : Bool) → z ≡ on_walk (cond t (NoRoom made) (Accepted made falls (get_or held row 0)))

@@ -48,15 +48,15 @@ module _ (goto fall out : List ℕ) (n : ℕ) where
 -- ---- the answer
 
 -- What a run leads to, with the held lengths and the room for reports.
-abbrev pub answer_of_lem : List ℕ → ℕ → Counted → Walked
-answer_of_lem held room (Read made falls row) = cond (ltb room made) (NoRoom made) (Accepted made falls (get_or held row 0))
-answer_of_lem held room (Stopped at) = Damaged at
+abbrev pub answer_of : List ℕ → ℕ → Counted → Walked
+answer_of held room (Read made falls row) = cond (ltb room made) (NoRoom made) (Accepted made falls (get_or held row 0))
+answer_of held room (Stopped at) = Damaged at
 
 -- The walk's answer, with a report buffer of the length `space`.
 abbrev pub walk_of : Five → ℕ → List ℕ → ℕ → Walked
 walk_of b n text space =
     cond (ltb most_bytes (length text)) TooLong
-    (cond (has_rows b n) (answer_of_lem b.held (space / 2) (run_of b.goto b.fall b.out n text))
+    (cond (has_rows b n) (answer_of b.held (space / 2) (run_of b.goto b.fall b.out n text))
     (BadRows n))
 
 -- A buffer with new entries in front, and what stood there after them.

@@ -6,7 +6,7 @@ use Prim.Native.Nat.{ℕ, zero, suc, ◌+◌, ◌-◌, ◌^◌, ◌≤◌, ◌<�
 use native.Mathlib.Omega.{arith}
 use lib.Pow.{pow_mono}
 use lib.ListN.{length, get_or}
-use Rattle.rows.proofs.Rows.{one_row_lem, unique}
+use Rattle.rows.proofs.Rows.{one_row, unique}
 use Rattle.sets.specs.Sets.{has, those, members}
 use Rattle.sets.specs.Table.{rules_at}
 use Rattle.sets.proofs.Laws.{has_above, set_where-lt}
@@ -82,13 +82,13 @@ module _ {r : Rules} {b b' : Five} {n n' : ℕ} (x : OneWord r b n) (y : Tables 
   gotos' = rw (unique (congruence r) x.rows y.rows) y.gotos
 
   one_entry : (goes : Bool) {t : List ℕ} {c e e' : ℕ} → Entry r x.texts t c e goes → Entry r x.texts t c e' goes → e ≡ e'
-  one_entry true p q = one_row_lem (congruence r) x.rows.ascending (p.on refl) (q.on refl)
+  one_entry true p q = one_row (congruence r) x.rows.ascending (p.on refl) (q.on refl)
   one_entry false p q = p.back refl ∙ sym (q.back refl)
 
   row_kept : (i : ℕ) → i < length x.texts → SameRow b b' i
   row_kept i k = record {
     goto_same = λ c byte. one_entry (goes_on_at r x.texts i c) (x.gotos.entry i c k byte) (gotos'.entry i c k byte);
-    fall-same = one_row_lem (congruence r) x.rows.ascending (fall_row (x.numbers.fall_is i k)) (fall_row (numbers'.fall_is i k));
+    fall-same = one_row (congruence r) x.rows.ascending (fall_row (x.numbers.fall_is i k)) (fall_row (numbers'.fall_is i k));
     held_same = x.numbers.held_is i k ∙ sym (numbers'.held_is i k);
     live_same = x.numbers.live_is i k ∙ sym (numbers'.live_is i k);
     out-same = x.numbers.out_is i k ∙ sym (numbers'.out_is i k);

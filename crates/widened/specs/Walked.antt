@@ -3,7 +3,7 @@ use Rattle.std.specs.Prelude.{◌≡◌, List, [], ◌∷◌, ℕ, ◌≤◌, �
 use Rattle.rows.specs.Rows.{ByteText}
 use Rattle.meaning.specs.Rules.{Rules, count}
 use Rattle.meaning.specs.Tables.{Five}
-use Rattle.meaning.specs.Occurrences.{Occurs, end_at_lem, rule_at, Lists}
+use Rattle.meaning.specs.Occurrences.{Occurs, end_at, rule_at, Lists}
 use Rattle.book.specs.Limits.{most_rules}
 use Rattle.listed.specs.Demands.{WalkCall, reports_after, WalkAnswers, OverTables, Matched}
 use Rattle.widened.specs.OneWord.{OneWord, wide, Roomy}
@@ -17,4 +17,4 @@ WideMatches = (r : Rules) (b : Five) (n live out : ℕ) → OneWord r b n → Ro
 abbrev pub ListKept : Type 0
 ListKept = (r : Rules) (w : WalkCall) → OverTables r w → (m falls h : ℕ) → WalkAnswers w 0 (m ∷ falls ∷ h ∷ [])
     → (xs : List ℕ) (k : ℕ) → Lists (Occurs r w.text) xs k
-    → (m ≡ k) × ((i : ℕ) → i < m → (end_at_lem (reports_after w) i ≡ end_at_lem xs i) × (rule_at (reports_after w) i ≡ rule_at xs i))
+    → (m ≡ k) × ((i : ℕ) → i < m → (end_at (reports_after w) i ≡ end_at xs i) × (rule_at (reports_after w) i ≡ rule_at xs i))

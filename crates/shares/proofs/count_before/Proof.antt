@@ -8,7 +8,7 @@ use Rattle.shares.specs.Below.{one_if}
 use Rattle.shares.specs.Ranks.{rank}
 use Rattle.shares.specs.Shares.{all_places, remainder_of, amount_at}
 use Rattle.shares.proofs.Below.{sum_none}
-use Rattle.shares.proofs.Steps.{add_next, add_all_lem, before_by}
+use Rattle.shares.proofs.Steps.{add_next, add_all, before_by}
 use Rattle.shares.proofs.Wholes.{total-most}
 use borrow.Author.Rules.{rules}
 use Rattle.shares.proofs.count_before.Statement.{statement}
@@ -68,7 +68,7 @@ loop-again c =
     c.if1.branch
 
 returns : tie.Need-returns invariant-loop decreases-loop
-returns c = add_all_lem _ c.before.loop.invariant.2 (omega arith)
+returns c = add_all _ c.before.loop.invariant.2 (omega arith)
 
 pub count-before-spec : {M : Type 1} → statement M
 count-before-spec =

@@ -43,8 +43,8 @@ counted c = rw c.size.ensures (members-le 64 _)
 cast-all : tie.Need-overflow-cast-all invariant-loop decreases-loop
 cast-all c = omega (arith, counted c)
 
-add_all_lem : tie.Need-overflow-add-all invariant-loop decreases-loop
-add_all_lem c = omega (arith, counted c)
+add_all : tie.Need-overflow-add-all invariant-loop decreases-loop
+add_all c = omega (arith, counted c)
 
 add-i : tie.Need-overflow-add-i invariant-loop decreases-loop
 add-i c = search rules
@@ -81,7 +81,7 @@ many-spec =
     shared-slice-read-size
     size-requires
     cast-all
-    add_all_lem
+    add_all
     add-i
     loop-less
     loop-again

@@ -9,7 +9,7 @@ use borrow.Author.Tests.{not-true, not-false, lt-ltb, le-ltb}
 use lib.ListN.{length}
 use Rattle.lent.specs.Lent.{five, lent, has_rows}
 use Rattle.walk.specs.declared.Counted.{Counted}
-use Rattle.walk.specs.Walk.{Walkable, reports_of, answer_of_lem, walk_of}
+use Rattle.walk.specs.Walk.{Walkable, reports_of, answer_of, walk_of}
 use Rattle.lent.proofs.HasRows.{has-rows}
 use Rattle.walk.proofs.Laws.{counted, walked}
 use Rattle.walk.proofs.walk.Statement.{statement}
@@ -48,7 +48,7 @@ found c =
 -- the run's part in the answer, where the run is q
 answered : (k : tie.After-count) (q : Counted) → k.count.result ≡ q →
     let a = k.before.before.before.before.before.before.before.before.before.before.before.args in
-    answer_of_lem a.held.now (length a.reports.now / 2) q ≡ walk_of (five a.goto.now a.fall.now a.held.now a.live.now a.out.now) a.n a.text.now (length a.reports.now)
+    answer_of a.held.now (length a.reports.now / 2) q ≡ walk_of (five a.goto.now a.fall.now a.held.now a.live.now a.out.now) a.n a.text.now (length a.reports.now)
 answered k q e =
     let a = k.before.before.before.before.before.before.before.before.before.before.before.args in
     walked (five a.goto.now a.fall.now a.held.now a.live.now a.out.now) _ _ _ k.before.before.before.if1.false (rows k.before) k.count.ensures e

@@ -8,7 +8,7 @@ use lib.Dec.{eqb}
 use lib.ListN.{length, drop, drop_of_length-le}
 use lib.Seq.{drop-cons}
 use Rattle.sets.specs.Sets.{set_of}
-use Rattle.sets.proofs.InWords.{empty-cons, not_empty_lem}
+use Rattle.sets.proofs.InWords.{empty-cons, not_empty}
 use Rattle.words.proofs.is_empty.Statement.{statement}
 use Rattle.words.proofs.is_empty.Tie as tie
 
@@ -31,7 +31,7 @@ returns : tie.Need-returns invariant-loop decreases-loop
 returns c =
     let l = c.before.before.before in
     let ws = l.before.args.words.now in
-    sym (l.loop.invariant.1 ∙ rw (drop-cons ws l.loop.i 0 c.before.before.loop-test.true) (not_empty_lem _ _ c.if1.true))
+    sym (l.loop.invariant.1 ∙ rw (drop-cons ws l.loop.i 0 c.before.before.loop-test.true) (not_empty _ _ c.if1.true))
 
 add-i : tie.Need-overflow-add-i invariant-loop decreases-loop
 add-i c = search rules

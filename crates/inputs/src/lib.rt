@@ -4,7 +4,9 @@
 ghost use Rattle.std.specs.Prelude.{length};
 ghost use Rattle.inputs.specs.Inputs.{InputFits, BothFit};
 
-use libc::STDIN_FILENO;
+use std::io::Read;
+use std::rt::Files;
+use std::{fs, io};
 
 // The room for a book and for a text: one byte more than each may have, so that an input which fills it is too long.
 pub const BOOK_ROOM: usize = 49152 + 1;
@@ -33,49 +35,48 @@ pub enum Both {
 }
 
 // Reads the book and the text.
-pub fn read_both(book: &mut [u8; BOOK_ROOM], text: &mut [u8; TEXT_ROOM]) -> Both
+pub fn read_both(
+    rt: &(impl Files + io::Input),
+    book: &mut [u8; BOOK_ROOM],
+    text: &mut [u8; TEXT_ROOM],
+) -> Both
     ensures { BothFit result (length book.new) (length text.new) }
 {
-    let Input::Whole(b) = read_book(book) else {
+    let Input::Whole(b) = read_book(rt, book) else {
         return Both::Refused;
     };
-    let Input::Whole(t) = read_text(text) else {
+    let Input::Whole(t) = read_text(rt, text) else {
         return Both::Refused;
     };
     Both::Whole { book: b, text: t }
 }
 
 // Reads the file `book.bin` of the working folder.
-fn read_book(room: &mut [u8; BOOK_ROOM]) -> Input
+fn read_book(rt: &impl Files, room: &mut [u8; BOOK_ROOM]) -> Input
     ensures { InputFits result (length room.new) }
 {
-    let file = os::open_read(b"book.bin");
-    if file < 0 {
+    let Ok(mut file) = fs::open(rt, "book.bin") else {
         return Input::Refused;
-    }
-    let book = read_all(file, room);
-    libc::close(file);
-    book
+    };
+    read_all(&mut file, room)
 }
 
 // Reads standard input.
-fn read_text(room: &mut [u8; TEXT_ROOM]) -> Input
+fn read_text(rt: &impl io::Input, room: &mut [u8; TEXT_ROOM]) -> Input
     ensures { InputFits result (length room.new) }
 {
-    read_all(STDIN_FILENO, room)
+    read_all(&mut rt.reader(), room)
 }
 
 // Reads to the end of the input, which has to come before the room is full.
-fn read_all(file: i32, room: &mut [u8]) -> Input
+fn read_all(file: &mut impl Read, room: &mut [u8]) -> Input
     ensures { InputFits result (length room.new) }
 {
     let mut done = 0;
     while done < room.len() {
-        let got = libc::read(file, &mut room[done..]);
-        if got < 0 {
+        let Ok(more) = file.read(&mut room[done..]) else {
             return Input::Refused;
-        }
-        let more = io::count(got, &room[done..]);
+        };
         if more == 0 {
             return Input::Whole(done);
         }

@@ -1,14 +1,13 @@
 -- Laws of one look and of one byte's move: what the loops over falls go by. Assumes nothing.
 use Prim.Native.Nat.{ℕ, zero, suc, ◌+◌, ◌*◌, ◌≤◌, ◌<◌}
-use mathlib.Core.Bool.{Bool, true, false, ◌||◌, or-true, true≢false}
+use mathlib.Core.Bool.{true, false, or-true, true≢false}
 use mathlib.Core.List.{List}
 use mathlib.Core.Logic.{◌≢◌}
 use mathlib.Core.Path.{◌≡◌, refl, sym, ◌∙◌}
 use native.Mathlib.Omega.{arith}
 use native.Mathlib.Decide.{dec_lt}
-use lib.Dec.{leb, ltb}
 use lib.ListN.{length, get_or}
-use borrow.Author.Tests.{lt-leb, le-leb, leb-false, le-ltb, ltb-false, eq-eqb, ne_eqb}
+use borrow.Author.Tests.{lt-leb, le-leb, le-ltb, eq-eqb, ne_eqb}
 use Rattle.rows.proofs.Compare.{less, equal, more, order}
 use Rattle.meaning.specs.Tables.{no_entry, goto_at}
 use Rattle.book.specs.Limits.{most_rows}
@@ -134,18 +133,7 @@ module _ (goto fall : List ℕ) (n : ℕ) where
 
 -- ---- tables that are long enough
 
-or-none : (a b : Bool) → (a || b) ≡ false → (a ≡ false) × (b ≡ false)
-or-none true b e = absurd (true≢false e)
-or-none false b e = (refl, e)
-
 module _ (goto fall : List ℕ) (n row : ℕ) where
-  pub not_short : is_short goto fall n row ≡ false → Lent goto fall n × (row < n)
-  not_short e =
-      let (e3, falls) = or-none (leb n row || ltb most_rows n || ltb (length goto) (256 * n)) (ltb (length fall) n) e in
-      let (e2, entries) = or-none (leb n row || ltb most_rows n) (ltb (length goto) (256 * n)) e3 in
-      let (below, few) = or-none (leb n row) (ltb most_rows n) e2 in
-      (record { few = ltb-false _ _ few; entries = ltb-false _ _ entries; falls = ltb-false _ _ falls }, leb-false _ _ below)
-
   long-enough : Lent goto fall n → row < n → is_short goto fall n row ≡ false
   long-enough x h =
       rw (lt-leb n row h, le-ltb most_rows n x.few, le-ltb (length goto) (256 * n) x.entries, le-ltb (length fall) n x.falls)

@@ -7,7 +7,7 @@ use lib.ListN.{replicate}
 use borrow.Author.Tests.{lt-ltb, le-ltb, eq-eqb, ne_eqb}
 use Rattle.shares.specs.declared.Divided.TheVariants.{Given, Past}
 use Rattle.book.specs.Content.{table}
-use Rattle.shares.specs.Shares.{all_places, limit, share_in, amount_at, total_of, ToShare, shares_of}
+use Rattle.shares.specs.Shares.{all_places, limit, share_in, amount_at, total_of, shares_of}
 
 module _ (totals : List ℕ) where
   pub is_past : limit < total_of totals → record { answer = Past; parts = replicate all_places 0 } ≡ shares_of totals
@@ -18,6 +18,3 @@ module _ (totals : List ℕ) where
 
   pub is_given : 0 < total_of totals → total_of totals ≤ limit → record { answer = Given; parts = table all_places (share_in (amount_at totals) all_places (total_of totals)) } ≡ shares_of totals
   is_given h l = rw (le-ltb limit (total_of totals) l, ne_eqb (total_of totals) 0 (λ e. omega arith))
-
-  pub is_shared : {whole : ℕ} {parts : List ℕ} → ToShare totals whole → parts ≡ table all_places (share_in (amount_at totals) all_places whole) → record { answer = Given; parts = parts } ≡ shares_of totals
-  is_shared w e = rw (e, w.is) (is_given (omega arith) (omega arith))

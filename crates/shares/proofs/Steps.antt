@@ -1,4 +1,4 @@
--- What a turn of a loop and its end make of the sum so far. Assumes nothing.
+-- What a turn of a loop makes of the sum so far. Assumes nothing.
 use mathlib.Core.Path.{◌≡◌}
 use mathlib.Core.Bool.{Bool, ◌||◌, ◌&&◌}
 use mathlib.Core.List.{List}
@@ -15,9 +15,6 @@ module _ (f : ℕ → ℕ) where
   pub add_next : {s x i : ℕ} → s ≡ sum_below f i → x ≡ f i → s + x ≡ sum_below f (i + 1)
   add_next {s} {x} {i} e d = omega (arith, sum_next f i)
 
-  pub add_all : {s i n : ℕ} → s ≡ sum_below f i → i ≡ n → s ≡ sum_below f n
-  add_all e d = rw (← d) e
-
   -- taken away
   pub take_none : (w : ℕ) → w + sum_below f 0 ≡ w
   take_none w = omega (arith, sum_none f)
@@ -28,15 +25,9 @@ module _ (f : ℕ → ℕ) where
   pub take-fits : {left x i w : ℕ} → left + sum_below f i ≡ w → x ≡ f i → sum_below f (i + 1) ≤ w → x ≤ left
   take-fits {left} {x} {i} {w} e d h = omega (arith, sum_next f i)
 
-  pub take_all : {left i n w : ℕ} → left + sum_below f i ≡ w → i ≡ n → left ≡ w - sum_below f n
-  take_all {left} {i} {n} {w} e d = rw (← d) (omega arith)
-
--- past the limit, and within it
+-- past the limit
 pub capped : (totals : List ℕ) {s i : ℕ} → s ≡ sum_below (amount_at totals) i → s ≤ limit → limit - s < amount_at totals i → i < all_places → limit + 1 ≡ min (total_of totals) (limit + 1)
 capped totals {s} {i} e l p h = omega (arith, sum_next (amount_at totals) i, sum_more (amount_at totals) (i + 1) all_places (omega arith))
-
-pub uncapped : (totals : List ℕ) {s i : ℕ} → s ≡ sum_below (amount_at totals) i → s ≤ limit → i ≡ all_places → s ≡ min (total_of totals) (limit + 1)
-uncapped totals {s} {i} e l d = let a : s ≡ total_of totals = add_all (amount_at totals) e d in omega arith
 
 -- whether j stands before i, by their remainders
 pub before_by : (r : ℕ → ℕ) {own other j i : ℕ} {b : Bool} → own ≡ r i → other ≡ r j → b ≡ (ltb own other || (eqb other own && ltb j i)) → b ≡ stands_before r j i

@@ -2,7 +2,7 @@
 use Prim.Native.Nat.{ℕ, ◌+◌, ◌*◌, ◌/◌, ◌≤◌, ◌<◌}
 use mathlib.Core.Bool.{true}
 use mathlib.Core.List.{List, [], ◌∷◌, ◌++◌}
-use mathlib.Core.Path.{◌≡◌, refl}
+use mathlib.Core.Path.{◌≡◌}
 use native.Mathlib.Nat.{zero-add}
 use native.Mathlib.Numerals.{add-one}
 use native.Mathlib.Omega.{arith}
@@ -86,15 +86,11 @@ module _ (goto fall out : List ℕ) (n : ℕ) where
   pub counted : (text : List ℕ) {r q : Counted} → 0 < n → r ≡ run_of goto fall out n text → r ≡ q → Right n 0 (reports_of goto fall out n text) q
   counted text h p q = rw (← q, p) (run_right text 0 0 0 0 h)
 
--- ---- a run of stores
+-- ---- what is stored from the first place on
 
 pub stored_all : (l xs : List ℕ) → length xs ≤ length l → stored l 0 xs ≡ written xs l
 unfolding written
 stored_all l xs h = rw zero-add at (sets-eq xs l 0 (omega arith))
-
-pub stored_none : (l xs : List ℕ) (i : ℕ) → length xs ≡ 0 → stored l i xs ≡ l
-stored_none l [] i h = refl
-stored_none l (x ∷ xs) i h = absurd (omega arith)
 
 -- ---- the rows, and the answer of a walk that reaches its run
 

@@ -1,4 +1,4 @@
--- `lines::check` meets its contract: the pass from here on is the whole pass. Assumes nothing.
+-- What the loop keeps: the pass from here on is the whole pass.
 use Prim.Native.Nat.{◌+◌, ◌-◌, ◌≤◌}
 use mathlib.Core.Path.{◌≡◌}
 use lib.ListN.{length, drop}

@@ -1,4 +1,4 @@
--- `lines::find` meets its contract: the first mark from here on is the first from `from` on. Assumes nothing.
+-- The first mark from here on is the first from `from` on: a turn takes in a byte that is none.
 use native.Mathlib.Omega.{arith}
 use Rattle.lines.proofs.Lines.{up_here, up_more, up_end}
 use Rattle.lines.proofs.find.Goals as goal

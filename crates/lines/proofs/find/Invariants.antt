@@ -1,4 +1,4 @@
--- `lines::find` meets its contract: the first mark from here on is the first from `from` on. Assumes nothing.
+-- What the loop keeps: the first mark from here on is the first from `from` on.
 use Prim.Native.Nat.{◌+◌, ◌-◌, ◌≤◌}
 use mathlib.Core.Path.{◌≡◌}
 use lib.ListN.{length, drop}

@@ -1,4 +1,4 @@
--- `lines::find_last` meets its contract: the last mark from here on is that of the text. Assumes nothing.
+-- What the loop keeps: the last mark from here on is that of the text.
 use Prim.Native.Nat.{◌-◌, ◌≤◌}
 use mathlib.Core.Path.{◌≡◌}
 use lib.ListN.{length, drop}

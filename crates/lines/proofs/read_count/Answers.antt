@@ -1,4 +1,4 @@
--- `lines::read_count` meets its contract: the number that the digits left make is that of all. Assumes nothing.
+-- The number that the digits left make is that of all: a turn takes in a digit.
 use Prim.Native.Nat.{◌+◌, ◌*◌}
 use mathlib.Core.Bool.{cond}
 use mathlib.Core.Path.{◌≡◌, sym, ap, ◌∙◌}

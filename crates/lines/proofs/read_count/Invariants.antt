@@ -1,4 +1,4 @@
--- `lines::read_count` meets its contract: the number that the digits left make is that of all. Assumes nothing.
+-- What the loop keeps: the number that the digits left make is that of all.
 use Prim.Native.Nat.{◌-◌, ◌≤◌}
 use mathlib.Core.Path.{◌≡◌}
 use lib.ListN.{length, drop}

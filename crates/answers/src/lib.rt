@@ -8,7 +8,7 @@ ghost use Rattle.answers.specs.Tallied.{number_of as numberTallied, value_of as 
 use book::Book;
 
 // The walk's answer. `number_of` and `values_of` of specs/ give each case's number and values.
-#[derive(Drop)]
+#[derive(Clone, Copy)]
 pub enum Walked {
     Accepted {
         reports: usize,
@@ -64,7 +64,7 @@ impl Walked {
 }
 
 // The tally's answer. `number_of` and `value_of` of specs/ give each case's number and value.
-#[derive(Drop)]
+#[derive(Clone, Copy)]
 pub enum Tallied {
     Accepted,
     TooLong,

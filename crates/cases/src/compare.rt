@@ -57,7 +57,7 @@ fn read(run: &mut [u64; 256], is: Seen, judged: Judged) {
 // ---- a build
 
 // The buffers, of which the first so many places were lent, and the answer.
-#[derive(Drop)]
+#[derive(Clone, Copy)]
 struct Tables {
     goto: [u16; 16384],
     fall: [u16; 64],

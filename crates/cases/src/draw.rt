@@ -56,7 +56,7 @@ pub const DIGITS: usize = 2;
 pub const MANY_PICTURES: usize = 3;
 
 // Up to so many pictures, then or among them so many rules, of `least` symbols or fewer than `more` more. The first rules may be much alike.
-#[derive(Drop)]
+#[derive(Clone, Copy)]
 pub struct Plan {
     pub kind: usize,
     pub pictures: usize,

@@ -2,7 +2,7 @@
 use crate::leaf::{above, at8, at64, plus, put64};
 
 // The answer, what a sound book holds, and how many symbols of a refused rule are at fault.
-#[derive(Drop)]
+#[derive(Clone, Copy)]
 pub struct Judged {
     pub number: usize,
     pub value: usize,

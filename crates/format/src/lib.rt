@@ -7,7 +7,7 @@ ghost use Rattle.format.specs.Format.{size_at, head_at, ascending_body};
 
 // Why a book is refused, and where: the field's offset; the offset of a symbol's first byte for the last two; the book's length where it
 // has no rule.
-#[derive(Drop)]
+#[derive(Clone, Copy)]
 pub enum Refusal {
     Cut(usize),
     OtherTag(usize),
@@ -21,7 +21,7 @@ pub enum Refusal {
     UndefinedPicture(usize),
 }
 
-#[derive(Drop)]
+#[derive(Clone, Copy)]
 pub enum Answer {
     Accepted,
     Refused(Refusal),

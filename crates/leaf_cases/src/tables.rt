@@ -6,7 +6,7 @@ use crate::safe::{above, plus};
 use leaf_totals::LeafTotals;
 use leaves::Handed;
 
-#[derive(Drop)]
+#[derive(Clone, Copy)]
 pub struct Tables {
     pub fall: [u16; 64],
     pub held: [u8; 64],

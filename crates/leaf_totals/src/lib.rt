@@ -12,7 +12,7 @@ use shares::{LIMIT, PLACES};
 pub const PROFILES: usize = 1024;
 
 // The totals of 256 families and of unnamed, and how many profiles they are of.
-#[derive(Drop)]
+#[derive(Clone, Copy)]
 pub struct LeafTotals {
     pub totals: [u64; Book::RULES],
     pub unnamed: u64,
@@ -20,7 +20,7 @@ pub struct LeafTotals {
 }
 
 // The answer of `add`. `number_of` and `value_of` of specs/ give each case's number and value.
-#[derive(Drop)]
+#[derive(Clone, Copy)]
 pub enum Totalled {
     Accepted,
     Full,

@@ -7,7 +7,7 @@ ghost use Rattle.promised.specs.Promise.{number_of, value_of};
 use format::{Answer, Refusal};
 
 // The answer of a build: the rows used, the rows lent where more are needed, or why the book is refused.
-#[derive(Drop)]
+#[derive(Clone, Copy)]
 pub enum Built {
     Rows(usize),
     NoRoom(usize),

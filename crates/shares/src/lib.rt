@@ -15,7 +15,7 @@ pub const LIMIT: u64 = 9007199254740991;
 pub const PLACES: usize = Book::RULES + 1;
 
 // Whether the shares are given, or the total is past the limit.
-#[derive(Drop)]
+#[derive(Clone, Copy)]
 pub enum Divided {
     Given,
     Past,

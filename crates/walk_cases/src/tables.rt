@@ -7,7 +7,7 @@ use crate::report::{key_of, letter, pick};
 use crate::search;
 use answers::{Tallied, Walked};
 
-#[derive(Drop)]
+#[derive(Clone, Copy)]
 pub struct Tables {
     pub fall: [u16; 64],
     pub held: [u8; 64],

@@ -7,7 +7,7 @@ ghost use Rattle.widen.specs.Widen.{widened_at, widened, widen_of, buffer_of, nu
 use words::WORDS;
 
 // The answer: done, or the old length that a buffer has no room for.
-#[derive(Drop)]
+#[derive(Clone, Copy)]
 pub enum Widened {
     Done,
     Short(usize),

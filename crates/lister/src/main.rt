@@ -17,10 +17,10 @@ const PLACES: usize = 2 * REPORTS;
 // The room for an answer: for each report a line of two numbers of up to 10 digits, and lines of up to 64 bytes before and after these.
 const ROOM: usize = 64 + 22 * REPORTS + 64;
 
-fn main() {
+fn main(rt: HostRuntime) {
     let mut book = [0u8; inputs::BOOK_ROOM];
     let mut text = [0u8; inputs::TEXT_ROOM];
-    if let Both::Whole { book: b, text: t } = inputs::read_both(&mut book, &mut text) {
+    if let Both::Whole { book: b, text: t } = inputs::read_both(&rt, &mut book, &mut text) {
         list(&book[0..b], &text[0..t]);
     } else {
         output::write(b"refused input\n");

@@ -12,10 +12,10 @@ use inputs::Both;
 // The room for an answer: for each rule a line of two numbers of up to 20 digits, and a line of up to 64 bytes before these.
 const ROOM: usize = 64 + 42 * Book::RULES;
 
-fn main() {
+fn main(rt: HostRuntime) {
     let mut book = [0u8; inputs::BOOK_ROOM];
     let mut profile = [0u8; inputs::TEXT_ROOM];
-    if let Both::Whole { book: b, text: p } = inputs::read_both(&mut book, &mut profile) {
+    if let Both::Whole { book: b, text: p } = inputs::read_both(&rt, &mut book, &mut profile) {
         sum(&book[0..b], &profile[0..p]);
     } else {
         output::write(b"refused input\n");

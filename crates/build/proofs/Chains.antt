@@ -1,4 +1,4 @@
--- The rows in chains: with no row but 0, with one row more, and a search along one of them. Assumes nothing.
+-- The rows in chains: with no row but 0, with one row more, and what a search along one of them knows. Assumes nothing.
 use mathlib.Core.Path.{◌≡◌, refl, sym, ap₂, ◌∙◌}
 use mathlib.Core.Logic.{◌≢◌}
 use mathlib.Core.List.{List}
@@ -11,7 +11,7 @@ use Rattle.sets.specs.Table.{row_words, rules_at}
 use Rattle.rows.proofs.Compare.{less, equal, more, order}
 use Rattle.meaning.proofs.Build.{Put}
 use Rattle.book.specs.Limits.{most_rows}
-use Rattle.build.specs.Course.{number_at, Stored, Key, Rising, chain_of, chain_at, Newest, Chains}
+use Rattle.build.specs.Course.{number_at, Stored, Key, chain_of, chain_at, Newest, Chains}
 use Rattle.build.specs.declared.Placed.TheVariants as placed
 use Rattle.build.specs.declared.Filled.TheVariants as filled
 use Rattle.sets.proofs.Zeros.{zero_at}
@@ -97,38 +97,7 @@ not_filled q = absurd (let z : ◌≡◌ {A = ℕ} 0 1 = cc in omega arith)
 
 -- ---- a search for three numbers, along their chain
 
--- a row with the numbers is in it
-key_chain : {held live fall : List ℕ} {h l f j : ℕ} → Key held live fall h l f j → chain_at fall live j ≡ chain_of f l
-key_chain y = ap₂ chain_of y.fall_is y.live_is
-
 -- row i is in the chain, where it is not row 0, and no row above it has the numbers
 pub record Searched (held live fall : List ℕ) (n h l f i : ℕ) : Type 0 where
   pub same : i ≢ 0 → chain_at fall live i ≡ chain_of f l
   pub above : (j : ℕ) → i < j → j < n → ¬ Key held live fall h l f j
-
-module _ {held live fall : List ℕ} {n h l f : ℕ} where
-  pub searched_start : {i : ℕ} → Newest (chain_at fall live) n (chain_of f l) i → Searched held live fall n h l f i
-  searched_start k = record { same = k.same; above = λ j a b y. k.gap j a b (key_chain y) }
-
-  module _ {i : ℕ} (x : Searched held live fall n h l f i) where
-    pub searched_next : {o : ℕ} → i ≢ 0 → Newest (chain_at fall live) i (chain_at fall live i) o → ¬ Key held live fall h l f i → Searched held live fall n h l f o
-    searched_next nz k not = record {
-      same = λ z. k.same z ∙ x.same nz;
-      above = λ j a b y. elim (order j i) [
-        | less d ↦ k.gap j a d (key_chain y ∙ sym (x.same nz))
-        | equal e ↦ not (rw e at y)
-        | more d ↦ x.above j d b y
-      ];
-    }
-
-    -- a row of a lesser held length: the rows below it hold no more
-    pub searched_short : Rising held n h → i < n → get_or held i 0 < h → (j : ℕ) → j < n → ¬ Key held live fall h l f j
-    searched_short k b lower j c y =
-        elim (order j i) [
-          | less d ↦ omega (arith, k.up j i d b, y.held_is)
-          | equal e ↦ omega (arith, rw e at y.held_is)
-          | more d ↦ x.above j d c y
-        ]
-
-  pub searched_end : Rising held n h → Searched held live fall n h l f 0 → (j : ℕ) → j < n → ¬ Key held live fall h l f j
-  searched_end k x j c y = elim (dec_lt 0 j) [ yes d ↦ x.above j d c y | no g ↦ let e : j ≡ 0 = omega arith in omega (arith, k.low, rw e at y.held_is) ]

@@ -3,7 +3,7 @@ use Prim.Native.Nat.{ℕ, zero, suc, ◌+◌, ◌*◌, ◌-◌, ◌≤◌, ◌<�
 use mathlib.Core.Path.{◌≡◌, refl, ap, subst, subst⁻¹, ◌∙◌}
 use mathlib.Core.Logic.{◌≢◌, inl, inr, ⊎_elim}
 use mathlib.Core.List.{List, ◌++◌}
-use native.Mathlib.Nat.{le_refl, le_trans, le_of_lt, lt_of_lt_of_le, lt_of_le_of_lt, lt_of_not-le, suc-ne-zero, add-sub_cancel_left}
+use native.Mathlib.Nat.{le_refl, le_trans, lt_of_lt_of_le, lt_of_not-le, add-sub_cancel_left}
 use native.Mathlib.Omega.{arith}
 use borrow.Author.Tests.{le-ltb}
 use borrow.Author.Count.{below_none}
@@ -15,7 +15,7 @@ use Rattle.meaning.specs.Tables.{no_entry, goto_at}
 use Rattle.meaning.specs.Step.{goes_on, next_live, Follows, goes, falls}
 use Rattle.book.specs.Limits.{most_symbols}
 use Rattle.build.specs.Sets.{Short}
-use Rattle.build.specs.Course.{Others, number_at, Leads, Descends, RowsUsed, Rising, there, made, Place, root, none, some, Filling, begin, next, RowFilled, whole, RowsOk, IsEntry, Sane, RowBuilt, row_of, with_row, Building, start, grow, AllFilled, all}
+use Rattle.build.specs.Course.{Others, number_at, Leads, RowsUsed, Rising, there, made, Place, root, none, some, Filling, begin, next, RowFilled, whole, RowsOk, IsEntry, Sane, RowBuilt, row_of, with_row, Building, start, grow, AllFilled, all}
 use Rattle.build.proofs.Laws.{below_set, All, all_append, all_take, all_drop, all_set}
 use Rattle.build.proofs.Steps.{stored_all, Kept, kept_refl, kept_more, place-keeps, filling-keeps, filling-long, filling-room, filling-rising}
 use Rattle.build.specs.declared.Placed.TheVariants as placed
@@ -34,30 +34,12 @@ more le (inl q) = inl q
 more le (inr l) = inr (lt_of_lt_of_le l le)
 
 module _ {lent n : ℕ} {goto : List ℕ} {t : Others} (sane : Sane lent n goto t) where
-  fall-le : (s : ℕ) → s < n → get_or t.fall s 0 ≤ s
-  fall-le zero h = omega (arith, sane.rows.first)
-  fall-le (suc s) h = le_of_lt (sane.rows.down (suc s) h (suc-ne-zero s))
-
-  pub descends : (s : ℕ) → s < n → Descends goto t.fall (get_or t.fall s 0)
-  descends s h =
-      let le = fall-le s h in
-      let room = sane.room in
-      record {
-        whole = omega (arith, sane.goto_room);
-        falls-within = omega arith;
-        down = λ r k. sane.rows.down r (lt_of_le_of_lt (le_trans k le) h);
-        last = sane.last;
-      }
-
   follows_below : {c r m e : ℕ} → Follows (goto_at goto) (number_at t.fall) c r m e → e < n
   follows_below (goes ne) = ⊎_elim (λ q. absurd (ne q)) (λ l. l) (sane.entries _)
   follows_below (falls e f) = follows_below f
 
   pub leads_below : {c r e : ℕ} → Leads goto t.fall c r e → e < n
   leads_below x = follows_below x.way
-
-  pub part-long : (s : ℕ) → s < n → length (part goto s) ≡ 256
-  part-long s h = simp (length-take, length-drop, span) (omega (arith, sane.goto_room, sane.room.used))
 
 -- a row filled in the part of goto that was lent, which comes back in its place
 pub built : {r : Rules} {lent n s : ℕ} {goto : List ℕ} {t u : Others} {x : Filled} (via row : List ℕ)
@@ -171,7 +153,7 @@ pub record Grown (lent : ℕ) (goto₀ : List ℕ) (t₀ : Others) (n : ℕ) (go
   pub long : length goto ≡ length goto₀
   pub kept : Kept 1 t₀ n t
 
-pub grown : {r : Rules} {lent s n : ℕ} {goto₀ goto : List ℕ} {t₀ t : Others} → Short r → Sane lent 1 goto₀ t₀ → Building r lent goto₀ t₀ s goto n t → Grown lent goto₀ t₀ n goto t
+pub grown : {r : Rules} {lent : ℕ} {goto₀ : List ℕ} {t₀ : Others} {s n : ℕ} {goto : List ℕ} {t : Others} → Short r → Sane lent 1 goto₀ t₀ → Building r lent goto₀ t₀ s goto n t → Grown lent goto₀ t₀ n goto t
 grown short sane₀ start = record { sane = sane₀; long = refl; kept = kept_refl 1 _ }
 grown short sane₀ (grow f h x) =
     let k = grown short sane₀ f in
@@ -191,6 +173,6 @@ first-rising xs = record { up = λ i j l h. absurd (omega arith); top = λ i h. 
 next-rising : {xs : List ℕ} (s : ℕ) {n : ℕ} → s + 1 < n → Rising xs n (get_or xs s 0 + 1) → Rising xs n (get_or xs (s + 1) 0 + 1)
 next-rising s h k = let e = k.up s (s + 1) (omega arith) h in record { up = k.up; top = λ i l. omega (arith, k.top i l); low = omega (arith, k.low) }
 
-pub rising : {r : Rules} {lent s n : ℕ} {goto₀ goto : List ℕ} {t₀ t : Others} → Building r lent goto₀ t₀ s goto n t → s < n → Rising t.held n (get_or t.held s 0 + 1)
+pub rising : {r : Rules} {lent : ℕ} {goto₀ : List ℕ} {t₀ : Others} {s n : ℕ} {goto : List ℕ} {t : Others} → Building r lent goto₀ t₀ s goto n t → s < n → Rising t.held n (get_or t.held s 0 + 1)
 rising {t₀ = t₀} start l = first-rising t₀.held
 rising (grow {s = s} f h x) l = next-rising s l (filled-rising h (rising f h) x.filled_row)

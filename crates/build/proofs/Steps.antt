@@ -67,17 +67,6 @@ pub stored_all : {w n v : ℕ} {read : List ℕ → ℕ → ℕ} {xs ys : List �
 stored_all {n = n} P st old new i l =
     elim (dec_lt i n) [ yes h ↦ rw (st.kept i h) (old i h) | no g ↦ let e : i ≡ n = omega arith in rw (e, st.here) new ]
 
--- room for one row more
-pub room_next : {lent n : ℕ} {t : Others} → RowsUsed lent n t → n < lent → RowsUsed (suc n) (suc n) t
-room_next room h = record {
-  used = omega arith;
-  few = omega (arith, room.few);
-  fall-room = omega (arith, room.fall-room);
-  held-room = omega (arith, room.held-room);
-  live-room = omega (arith, room.live-room);
-  out-room = omega (arith, room.out-room);
-}
-
 pub some_with : {r : Rules} {lent s c v n : ℕ} {t u : Others} {x : Placed} {l e : ℕ} → l ≡ onward r t s c → e ≡ finished r (get_or t.held s 0 + 1) l → l ≢ 0
     → RowOf e lent n (get_or t.held s 0 + 1) l v t u x → Place r lent s c v n t u x
 some_with {r} {lent} {s} {c} {v} {n} {t} {u} {x} {l} {e} q d ne p =

@@ -39,9 +39,6 @@ others-zero goto t z = rw (← z.1, ← z.2, ← z.3, ← z.4)
 
 -- the same of what the code has, which equals it
 module _ {lent : ℕ} (goto : List ℕ) {g : List ℕ} (t : Others) {w : Others} (e : lent ≡ rows_lent goto t) (z : AllZero goto t g w) where
-  pub sane_at : lent ≢ 0 → Sane lent 1 g w
-  sane_at ne = rw (e, z.0, others-zero goto t z) (zero_sane goto t (λ n. ne (e ∙ n)))
-
   pub empty_at : (r : Rules) → lent ≡ 0 → Makes r goto t g w (built.NoRoom 0)
   empty_at r n = rw (z.0, others-zero goto t z) (empty (sym e ∙ n))
 

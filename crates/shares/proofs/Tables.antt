@@ -25,9 +25,6 @@ pub record Filled (f : ℕ → ℕ) (n i : ℕ) (l : List ℕ) : Type 0 where
   pub long : length l ≡ n
   pub done : (k : ℕ) → k < i → get_or l k 0 ≡ f k
 
-pub filled_none : {f : ℕ → ℕ} {n : ℕ} {l : List ℕ} → length l ≡ n → Filled f n 0 l
-filled_none e = record { long = e; done = λ k h. absurd (omega arith) }
-
 pub filled_next : {f : ℕ → ℕ} {n i x : ℕ} {l : List ℕ} → i < n → x ≡ f i → Filled f n i l → Filled f n (i + 1) (set l i x)
 filled_next {f} {n} {i} {x} {l} h e w = record {
   long = length-set l i x ∙ w.long;

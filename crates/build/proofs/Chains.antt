@@ -13,7 +13,6 @@ use Rattle.meaning.proofs.Build.{Put}
 use Rattle.book.specs.Limits.{most_rows}
 use Rattle.build.specs.Course.{number_at, Stored, Key, chain_of, chain_at, Newest, Chains}
 use Rattle.build.specs.declared.Placed.TheVariants as placed
-use Rattle.build.specs.declared.Filled.TheVariants as filled
 use Rattle.sets.proofs.Zeros.{zero_at}
 
 pub chains_start : (m : ℕ) → m ≡ most_rows → (chain : ℕ → ℕ) → Chains (replicate m 0) (replicate m 0) chain 1
@@ -85,15 +84,6 @@ chain_put a b e = record { kept = λ i h. ap₂ chain_of (a.kept i h) (b.kept i 
 -- the chains of the rows that an answer counts
 pub chains_placed : {first older : List ℕ} {chain : ℕ → ℕ} {i n e m : ℕ} → placed.Entry i n ≡ placed.Entry e m → Chains first older chain n → Chains first older chain m
 chains_placed {n = n} {m = m} q k = let z : n ≡ m = cc in rw z at k
-
-pub chains_filled : {first older : List ℕ} {chain : ℕ → ℕ} {n m : ℕ} → filled.Rows n ≡ filled.Rows m → Chains first older chain n → Chains first older chain m
-chains_filled {n = n} {m = m} q k = let z : n ≡ m = cc in rw z at k
-
-pub not_placed : {A : Type 0} {e m : ℕ} → placed.Full ≡ placed.Entry e m → A
-not_placed q = absurd (let z : ◌≡◌ {A = ℕ} 0 1 = cc in omega arith)
-
-pub not_filled : {A : Type 0} {m : ℕ} → filled.Full ≡ filled.Rows m → A
-not_filled q = absurd (let z : ◌≡◌ {A = ℕ} 0 1 = cc in omega arith)
 
 -- ---- a search for three numbers, along their chain
 

@@ -8,7 +8,7 @@ use Rattle.book.specs.Limits.{most_rules, most_symbols}
 use Rattle.book.specs.Content.{Content, sizes, record_of}
 use Rattle.book.specs.Sound.{Sound}
 use Rattle.book.proofs.Cases.{by_lt}
-use Rattle.book.proofs.Tables.{length_table, get_d_sizes}
+use Rattle.book.proofs.Tables.{length_table, get_or-sizes}
 
 module _ {b : Book} (a : Content) (e : b ≡ record_of a) where
   pub rules-held : b.rules ≡ length a.rules
@@ -24,5 +24,5 @@ module _ {b : Book} (a : Content) (e : b ≡ record_of a) where
   short-held S k =
       rw lengths_held
       (by_lt k most_rules
-      (λ h. rw (get_d_sizes most_rules a.rules k h) (S.short k))
+      (λ h. rw (get_or-sizes most_rules a.rules k h) (S.short k))
       (λ h. rw (get_or-eq_default (sizes most_rules a.rules) 0 {n = k} (rw length_table h)) (omega arith)))

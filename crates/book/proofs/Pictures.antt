@@ -14,11 +14,11 @@ use Rattle.book.specs.Limits.{most_pictures}
 use Rattle.book.specs.Content.{member, pictures_with, map_of}
 use Rattle.book.specs.Grown.{mark}
 use Rattle.book.proofs.Cases.{by_test, by_lt}
-use Rattle.book.proofs.Tables.{length_table, get_d_table, is_table, at_snoc}
+use Rattle.book.proofs.Tables.{length_table, get_or-table, is_table, at_snoc}
 
-pub get_d_map : (ps : List (List ℕ)) (c : ℕ) → c < 256 → get_or (map_of ps) c 0 ≡ pictures_with ps c
+pub get_or-map : (ps : List (List ℕ)) (c : ℕ) → c < 256 → get_or (map_of ps) c 0 ≡ pictures_with ps c
 unfolding map_of
-get_d_map ps c h = get_d_table 256 (pictures_with ps) c 0 h
+get_or-map ps c h = get_or-table 256 (pictures_with ps) c 0 h
 
 pub length-map : (ps : List (List ℕ)) → length (map_of ps) ≡ 256
 unfolding map_of
@@ -41,12 +41,12 @@ length-mark p [] map = refl
 length-mark p (x ∷ m) map = length-mark p m _ ∙ length-set map x _
 
 -- the set of a byte that is marked, and of one that is not
-get_d_mark : (p : ℕ) (m map : List ℕ) (c : ℕ) → c < length map → get_or (mark p map m) c 0 ≡ cond (member c m) (adding most_pictures (get_or map c 0) p) (get_or map c 0)
+get_or-mark : (p : ℕ) (m map : List ℕ) (c : ℕ) → c < length map → get_or (mark p map m) c 0 ≡ cond (member c m) (adding most_pictures (get_or map c 0) p) (get_or map c 0)
 unfolding mark member
-get_d_mark p [] map c h = refl
-get_d_mark p (x ∷ m) map c h =
+get_or-mark p [] map c h = refl
+get_or-mark p (x ∷ m) map c h =
     let v = adding most_pictures (get_or map x 0) p in
-    get_d_mark p m (set map x v) c (rw length-set h)
+    get_or-mark p m (set map x v) c (rw length-set h)
     ∙ by_test (eqb c x)
     (λ e. let q : c ≡ x = eqb-true c x e in rw (e, q, get_or-set_same map x v 0 (omega arith)) (same (member x m) (adding_again most_pictures (get_or map x 0) p)))
     (λ e. rw (e, get_or-set_other map x c v 0 (eqb-false c x e)))
@@ -84,4 +84,4 @@ unfolding map_of
 map_more ps m =
     is_table 256 (pictures_with (ps ++ m ∷ [])) (mark (length ps) (map_of ps) m)
     (length-mark (length ps) m (map_of ps) ∙ length-map ps)
-    (λ c k. get_d_mark (length ps) m (map_of ps) c (rw length-map k) ∙ rw (get_d_map ps c k) (set_more ps m c))
+    (λ c k. get_or-mark (length ps) m (map_of ps) c (rw length-map k) ∙ rw (get_or-map ps c k) (set_more ps m c))

@@ -10,14 +10,14 @@ use lib.Seq.{sets}
 use lib.Dec.{ltb}
 use Rattle.sets.proofs.Laws.{set_where-none}
 use Rattle.book.specs.Limits.{most_pictures, most_rules, most_symbols, places}
-use Rattle.book.specs.Content.{nothing, member, pictures_with, symbol_at_lem, padded, sizes, map_of, record_of}
+use Rattle.book.specs.Content.{nothing, member, pictures_with, symbol_at, padded, sizes, map_of, record_of}
 use Rattle.book.specs.Grown.{symbols_of, has_room, symbols_with, lengths_with}
 use Rattle.book.proofs.Tables.{table_constant, padded-set, sizes-set, snoc_here, snoc-other}
 
 pub empty-held : record { symbols = replicate places 0; lengths = replicate most_rules 0; picture = replicate 256 0; pictures = 0; rules = 0 } ≡ record_of nothing
 unfolding record_of pictures_with member padded sizes map_of
 empty-held = λ i. record {
-  symbols = table_constant places 0 (λ k. symbol_at_lem [] (k / most_symbols) (k % most_symbols)) (λ k. refl) i;
+  symbols = table_constant places 0 (λ k. symbol_at [] (k / most_symbols) (k % most_symbols)) (λ k. refl) i;
   lengths = table_constant most_rules 0 (λ k. length (get_or {A = List ℕ} [] k [])) (λ k. refl) i;
   picture = table_constant 256 0 (pictures_with []) (λ k. set_where-none most_pictures _ (λ p h. refl)) i;
   pictures = 0;

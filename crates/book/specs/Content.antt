@@ -33,8 +33,8 @@ unfoldable pub pictures_with : List (List ℕ) → ℕ → ℕ
 pictures_with ps c = set_where most_pictures (λ p. member c (get_or ps p []))
 
 -- symbol j of rule k, 0 where there is none
-abbrev pub symbol_at_lem : List (List ℕ) → ℕ → ℕ → ℕ
-symbol_at_lem rs k j = get_or (get_or rs k []) j 0
+abbrev pub symbol_at : List (List ℕ) → ℕ → ℕ → ℕ
+symbol_at rs k j = get_or (get_or rs k []) j 0
 
 -- ---- the record
 
@@ -45,7 +45,7 @@ table (suc n) f = f zero ∷ table n (λ k. f (suc k))
 
 -- n lists in w places each, one after the other: the elements of list k, and 0 after them
 unfoldable pub padded : ℕ → ℕ → List (List ℕ) → List ℕ
-padded n w rs = table (n * w) (λ i. symbol_at_lem rs (i / w) (i % w))
+padded n w rs = table (n * w) (λ i. symbol_at rs (i / w) (i % w))
 
 -- the lengths of n lists, 0 where there is none
 unfoldable pub sizes : ℕ → List (List ℕ) → List ℕ

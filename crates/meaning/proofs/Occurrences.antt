@@ -110,11 +110,11 @@ under-reverse : (u t : List ℕ) (j : ℕ) → get_or (reverse_aux u t) (length 
 under-reverse [] t j = rw zero-add
 under-reverse (c ∷ u) t j = let q : suc (length u) + j ≡ length u + suc j = omega arith in rw q (under-reverse u (c ∷ t) (suc j))
 
-get_d_reverse : (u t : List ℕ) (j : ℕ) → j < length u → get_or (reverse_aux u t) j 0 ≡ get_or u (length u - suc j) 0
-get_d_reverse [] t j h = absurd (omega arith)
-get_d_reverse (c ∷ u) t j h =
+get_or-reverse : (u t : List ℕ) (j : ℕ) → j < length u → get_or (reverse_aux u t) j 0 ≡ get_or u (length u - suc j) 0
+get_or-reverse [] t j h = absurd (omega arith)
+get_or-reverse (c ∷ u) t j h =
     elim (dec_lt j (length u)) [
-      | yes l ↦ let q : suc (length u) - suc j ≡ suc (length u - suc j) = omega arith in rw q (get_d_reverse u (c ∷ t) j l)
+      | yes l ↦ let q : suc (length u) - suc j ≡ suc (length u - suc j) = omega arith in rw q (get_or-reverse u (c ∷ t) j l)
       | no g ↦
           let q : suc (length u) - suc j ≡ 0 = omega arith in
           let z : j ≡ length u + 0 = omega arith in
@@ -125,7 +125,7 @@ get_d_reverse (c ∷ u) t j h =
 pub reverse_at : (text : List ℕ) (j i : ℕ) → i < j → j ≤ length text → get_or (reverse text) (j - suc i) 0 ≡ get_or text (length text - j + i) 0
 reverse_at text j i l h =
     let q : length text - suc (j - suc i) ≡ length text - j + i = omega arith in
-    get_d_reverse text [] (j - suc i) (omega arith) ∙ rw q
+    get_or-reverse text [] (j - suc i) (omega arith) ∙ rw q
 
 module _ (r : Rules) (text : List ℕ) (e k : ℕ) (h : e ≤ length text) where
   -- the first e bytes, the latest first

@@ -9,7 +9,7 @@ use lib.ListN.{get_or, get_or-eq_default}
 use borrow.Author.Tests.{lt-ltb}
 use Rattle.shares.specs.Shares.{all_places, amount_at}
 use Rattle.shares.specs.Demands.{share}
-use Rattle.book.proofs.Tables.{get_d_table}
+use Rattle.book.proofs.Tables.{get_or-table}
 use Rattle.leaf_totals.specs.declared.LeafTotals.{LeafTotals}
 use Rattle.leaf_totals.specs.Record.{total_at, totals_in}
 use Rattle.totalled.proofs.Rounded.{AtEnds, none_between}
@@ -24,7 +24,7 @@ pub record FourOf (t : LeafTotals) (a b c d rest : ℕ) : Type 0 where
 
 module _ {t : LeafTotals} {a b c d rest : ℕ} (x : FourOf t a b c d rest) where
   amount : (p : ℕ) → p < 257 → amount_at (totals_in t) p ≡ totals_are a b c d rest p
-  amount p l = get_d_table all_places (total_at t) p 0 l ∙ x.at p l
+  amount p l = get_or-table all_places (total_at t) p 0 l ∙ x.at p l
 
   pub four-first : (p : ℕ) → p < 256 → get_or t.totals p 0 ≡ get_or (a ∷ b ∷ c ∷ d ∷ []) p 0
   four-first p l = rw (lt-ltb p 256 l) at (x.at p (omega arith))

@@ -1,12 +1,9 @@
 -- The lines of a search, and how long they are. Assumes nothing.
 use mathlib.Core.Bool.{Bool, true, false, cond}
-use mathlib.Core.Logic.{inl, inr}
-use mathlib.Core.List.{List, [], ◌∷◌}
+use mathlib.Core.List.{List}
 use mathlib.Core.Path.{◌≡◌, refl, sym, ap, subst, ◌∙◌}
 use Prim.Native.Nat.{ℕ, ◌+◌, ◌*◌, ◌/◌, ◌^◌, ◌≤◌, ◌<◌}
 use native.Mathlib.Omega.{arith}
-use types.Run.{OneOf}
-use denote.Enum.Declared.{tag_of}
 use lib.Dec.{ltb}
 use lib.ListN.{length, get_or, take, drop}
 use lib.Seq.{take_at}
@@ -18,7 +15,6 @@ use Rattle.lent.specs.Lent.{has_rows}
 use Rattle.walk.specs.declared.Counted.{Counted}
 use Rattle.walk.specs.declared.Counted.TheVariants.{Read, Stopped}
 use Rattle.answers.specs.declared.Walked.{Walked}
-use Rattle.answers.specs.contracts.Walked.{the_type}
 use Rattle.answers.specs.declared.Walked.TheVariants.{Accepted, TooLong, BadRows, Damaged, NoRoom}
 use Rattle.answers.specs.Walked.{number_of, value_of}
 use Rattle.walk.specs.Walk.{run_of, reports_of, answer_of, walk_of, written, buffer_of}
@@ -61,11 +57,8 @@ told b n text space = go (ltb most_bytes (length text)) (has_rows b n) refl
     go false false e = tt
 
 -- every other answer is refused
-not_shown : (r : Walked) (reports : List ℕ) → OneOf (1 ∷ 2 ∷ 3 ∷ 4 ∷ []) (tag_of the_type r) → walked_lines r reports ≡ refused_line (number_of r) (value_of r)
-not_shown (Accepted made falls held) reports (inl q) = absurd (omega arith)
-not_shown (Accepted made falls held) reports (inr (inl q)) = absurd (omega arith)
-not_shown (Accepted made falls held) reports (inr (inr (inl q))) = absurd (omega arith)
-not_shown (Accepted made falls held) reports (inr (inr (inr q))) = absurd (omega arith)
+not_shown : (r : Walked) (reports : List ℕ) → ((made falls held : ℕ) → r ≡ Accepted made falls held → ⊥) → walked_lines r reports ≡ refused_line (number_of r) (value_of r)
+not_shown (Accepted made falls held) reports k = absurd (k made falls held refl)
 not_shown TooLong reports k = refl
 not_shown (BadRows n) reports k = refl
 not_shown (Damaged at) reports k = refl
@@ -93,7 +86,7 @@ module _ (b : Five) (n : ℕ) (text : List ℕ) where
 
   -- the line of a refusal is that of the search
   pub search-refused :
-      {at e : ℕ} {l l' : List ℕ} (r : Walked) (old : List ℕ) → length old ≡ 16384 → r ≡ walk_of b n text (length old) → OneOf (1 ∷ 2 ∷ 3 ∷ 4 ∷ []) (tag_of the_type r)
+      {at e : ℕ} {l l' : List ℕ} (r : Walked) (old : List ℕ) → length old ≡ 16384 → r ≡ walk_of b n text (length old) → ((made falls held : ℕ) → r ≡ Accepted made falls held → ⊥)
       → number_of r < 2 ^ 64 → value_of r < 2 ^ 64 → Puts (refused_line (number_of r) (value_of r)) l at l' e
       → PutsSearch b n text l at l' e
   search-refused {at} {e} {l} {l'} r old size p k i v put =

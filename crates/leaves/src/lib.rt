@@ -16,7 +16,7 @@ use lines::{LF, Pass};
 use shares::{LIMIT, PLACES, Shares};
 
 // The answer beside the record.
-#[derive(Drop)]
+#[derive(Clone, Copy)]
 pub struct Handed {
     pub answer: Totalled,
     pub back: LeafTotals,

@@ -1,2 +1,0 @@
--- The laws of the inputs. Assumes nothing.
-pub mod Laws

@@ -9,7 +9,7 @@ use lib.ListN.{length}
 use Rattle.rows.specs.Rows.{ByteText, IsRow}
 use Rattle.rows.proofs.Rows.{row_same}
 use Rattle.meaning.specs.Rules.{Rules}
-use Rattle.meaning.specs.Standing.{Same, out}
+use Rattle.meaning.specs.Standing.{Same}
 use Rattle.meaning.specs.Falls.{falls, falls_in}
 use Rattle.meaning.specs.Tables.{no_entry, Five, goto_at, Tables}
 use Rattle.meaning.proofs.Congruent.{congruence}

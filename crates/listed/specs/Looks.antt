@@ -1,5 +1,5 @@
 -- The looks of a run over tables, in order, and how many of them go on. Assumes nothing.
-use Rattle.std.specs.Prelude.{List, [], ◌∷◌, ◌++◌, ℕ, zero, suc, ◌+◌}
+use Rattle.std.specs.Prelude.{List, [], ◌∷◌, ◌++◌, ℕ, zero, suc}
 use Rattle.sets.specs.Sums.{sum_over}
 use Rattle.one_byte.specs.Move.{Looked, Go, Fall, Wrong, look_at, move_from, on_move}
 

@@ -44,6 +44,8 @@ def defined():
         by_function = os.path.basename(path) in ("Proof.antt", "Answers.antt", "Invariants.antt")
         with open(path, encoding="utf-8") as f:
             for line in f:
+                if re.match(r"\s*use ", line):
+                    inside.update(re.findall(rf" as ({WORD})", line))
                 if re.match(r"\s*(--|use |mod |pub mod )", line):
                     continue
                 m = re.match(rf"(?:  )?(?:abbrev |unfoldable )?(?:pub )?({WORD}) :(?: |$)", line)
@@ -55,6 +57,11 @@ def defined():
                         inside.add(name)
                 for m in re.finditer(rf"[({{]((?:{WORD} )+): ", line):
                     inside.update(m.group(1).split())
+    for path in sorted(glob.glob("crates/*/src/**/*.rt", recursive=True)):
+        with open(path, encoding="utf-8") as f:
+            for line in f:
+                if line.startswith("ghost use "):
+                    inside.update(re.findall(rf" as ({WORD})", line))
     return top, inside
 
 
@@ -62,11 +69,42 @@ def snake(part):
     """A word of a name, in snake case; what begins with a capital is a type."""
     if not part or part[0].isupper():
         return part
+    if part == "getD":
+        return "get_or"
     return re.sub(r"(?<=[a-z0-9])([A-Z]+)", lambda m: "_" + m.group(1).lower(), part)
 
 
-def respelled(name, functions):
+def fields():
+    """The fields of records and the constructors of data in specs/: no dash joins a field to anything."""
+    found = set()
+    for path in sorted(glob.glob("crates/*/specs/**/*.antt", recursive=True)):
+        with open(path, encoding="utf-8") as f:
+            inside = False
+            for line in f:
+                if re.match(r"(pub )?(record|data) ", line):
+                    inside = True
+                elif re.match(r"\S", line) and not line.startswith("--"):
+                    inside = False
+                m = re.match(rf"  (?:pub )?({WORD}) : ", line)
+                if inside and m:
+                    found.add(m.group(1))
+    return found
+
+
+def imported():
+    """What our files import from the library by name."""
+    found = set()
+    for path in files():
+        with open(path, encoding="utf-8") as f:
+            for m in re.finditer(r"(?m)^\s*use (?!Rattle\.(?!std|core))[\w.]+\.\{([^}]*)\}", f.read()):
+                found.update(n.strip().split(" as ")[0] for n in m.group(1).split(","))
+    return found
+
+
+def respelled(name, functions, of_records):
     parts = [snake(p) for p in name.split("-")]
+    if name in of_records:
+        return "_".join(parts)
     out = parts[0]
     for before, part in zip(parts, parts[1:]):
         joins = (before in functions or before[:1].isupper()) and before not in PLAIN and (part in JOINED or (part in functions and part not in PLAIN) or part[:1].isupper())
@@ -75,18 +113,19 @@ def respelled(name, functions):
 
 
 def main():
-    library = in_library()
+    library, cited = in_library(), imported()
     top, inside = defined()
+    of_records = fields()
     functions = {snake(n) for n in top if "-" not in n} | JOINED
     names = {n for n in top | inside if ("-" in n or re.search(r"[a-z0-9][A-Z]", n)) and not n[0].isupper()}
     # What Rattle makes of the code keeps its name.
     names = {n for n in names if not re.match(r"(returns|overflow_|bounds-|loop-|offset_bounds-|slice_bounds-|nonzero_|invariant-|decreases-|shape_of-|prove-)", n)}
     turned, kept = {}, []
     for name in sorted(names):
-        if name in library:
+        if name in library and (name in cited or name not in of_records):
             kept.append(name)
             continue
-        new = respelled(name, functions)
+        new = respelled(name, functions, of_records)
         if new != name:
             turned[name] = new
     taken = {}
@@ -98,15 +137,11 @@ def main():
     clash = sorted(f"{o} -> {n}" for o, n in turned.items() if n in library and o in top)
     for line in clash:
         print(f"the library has it: {line}")
-    if "--dry" in sys.argv:
-        for o, n in sorted(turned.items()):
-            print(f"{o} -> {n}")
-        return
     # A lemma that would have its function's name gets `_lem`, where both stand in one file; what src/ calls so keeps it.
     in_source = set(re.findall(rf"\bfn (\w+)", "".join(open(p, encoding="utf-8").read() for p in glob.glob("crates/*/src/**/*.rt", recursive=True))))
     words_of = [set(re.findall(rf"(?<![\w'])(?<!\w-){WORD}", open(p, encoding="utf-8").read())) for p in files()]
     for new, olds in together.items():
-        first = next((o for o in olds if re.search(r"[a-z0-9][A-Z]", o)), olds[0])
+        first = next((o for o in olds if o in of_records), next((o for o in olds if re.search(r"[a-z0-9][A-Z]", o)), olds[0]))
         if not any(len(ws & set(olds)) > 1 for ws in words_of):
             continue
         for o in olds:
@@ -114,6 +149,10 @@ def main():
                 turned[o] = new + "_lem"
             elif o != first:
                 turned.pop(first, None)
+    if "--dry" in sys.argv:
+        for o, n in sorted(turned.items()):
+            print(f"{o} -> {n}")
+        return
     word = re.compile(rf"(?<![\w'])(?<!\w-){WORD}")
     changed = 0
     for path in list(files()) + sorted(glob.glob("crates/*/src/**/*.rt", recursive=True)) + sorted(glob.glob("crates/*/must-fail/*.edit")):
@@ -152,6 +191,7 @@ LABELS = {
     },
     "crates/shown/src/lib.rt": {"ensures held_len_bound {": "ensures bounded {", "ensures sums_len_bound {": "ensures bounded {"},
     "crates/widen/src/lib.rt": {"ensures fact_1 {": "ensures answer {", "ensures fact_2 {": "ensures live_left {", "ensures fact_3 {": "ensures out_left {"},
+    "crates/walk/src/lib.rt": {"requires text_len {": "requires room {"},
     "crates/words/src/lib.rt": {
         "ensures value {": "ensures all_empty {",
         "ensures value_2 {": "ensures words {",

@@ -5,7 +5,7 @@ use Rattle.answers.specs.declared.Walked.TheVariants as walked
 use Rattle.answers.specs.declared.Tallied.{Tallied}
 use Rattle.answers.specs.declared.Tallied.TheVariants as tallied
 use Rattle.answers.specs.Walked.{number_of, values_of}
-use Rattle.answers.specs.Tallied.{number_of as numberTallied, value_of as valueTallied}
+use Rattle.answers.specs.Tallied.{number_of as number_tallied, value_of as value_tallied}
 
 -- a walk's answer has the number n and the values vs
 abbrev pub WalkedTells : Walked → ℕ → List ℕ → Type 0
@@ -13,7 +13,7 @@ WalkedTells a n vs = (number_of a ≡ n) × (values_of a ≡ vs)
 
 -- a tally's answer has the number n and the value v
 abbrev pub TalliedTells : Tallied → ℕ → ℕ → Type 0
-TalliedTells a n v = (numberTallied a ≡ n) × (valueTallied a ≡ v)
+TalliedTells a n v = (number_tallied a ≡ n) × (value_tallied a ≡ v)
 
 -- an accepted walk has three values: its reports, its fallbacks and the held length
 pub record WalkedByNumbers : Type 0 where

@@ -3,7 +3,7 @@
 
 ghost use Rattle.std.specs.Prelude.{◌≡◌};
 ghost use Rattle.answers.specs.Walked.{number_of, value_of};
-ghost use Rattle.answers.specs.Tallied.{number_of as numberTallied, value_of as valueTallied};
+ghost use Rattle.answers.specs.Tallied.{number_of as number_tallied, value_of as value_tallied};
 
 use book::Book;
 
@@ -77,7 +77,7 @@ pub enum Tallied {
 impl Tallied {
     // The paper's number of an answer.
     pub fn number(self) -> usize
-        ensures { result ≡ numberTallied self }
+        ensures { result ≡ number_tallied self }
     {
         match self {
             Tallied::Accepted => 0,
@@ -91,7 +91,7 @@ impl Tallied {
 
     // Its value.
     pub fn value(self) -> usize
-        ensures { result ≡ valueTallied self }
+        ensures { result ≡ value_tallied self }
     {
         match self {
             Tallied::Accepted => 0,

@@ -3,11 +3,11 @@
 
 ghost use Rattle.std.specs.Prelude.{◌≡◌, ◌+◌, ◌*◌, length, get_or, drop};
 ghost use Rattle.std.specs.Int.Bits.{bit_or};
-ghost use Rattle.sets.specs.Sets.{has as isIn, adding, members, plus_each, reports, with_room, replaced};
+ghost use Rattle.sets.specs.Sets.{has as is_in, adding, members, plus_each, reports, with_room, replaced};
 
 // Whether k is in the set.
 pub fn has(set: u64, k: u32) -> bool
-    ensures { result ≡ isIn set k }
+    ensures { result ≡ is_in set k }
 {
     if 64 <= k {
         return false;

@@ -16,7 +16,7 @@ use Rattle.book.specs.Sound.{Sound}
 use Rattle.book.specs.Meant.{member_in, rules_in, rules_held}
 use Rattle.book.specs.Apart.{Apart, Shares, ApartIsUnshared, picture_from, map_before, member_before, ApartAsBefore}
 use Rattle.book.proofs.Cases.{by_test, by_lt, by_eq, clash}
-use Rattle.book.proofs.Tables.{get_or-table}
+use Rattle.book.proofs.Tables.{get_or_table}
 use Rattle.book.proofs.Meant.{member-past, member-same}
 
 -- a picture with a member is one of the book
@@ -84,7 +84,7 @@ module _ (a : Content) (S : Sound a) (apart : Apart a.pictures) where
   unfolding member_before map_before
   member_before_lem p c =
       by_lt c 256
-      (λ h. rw (lt-ltb c 256 h, get_or-table 256 (picture_from 0 ps) c 0 h) (by_number p c (one_or_none 0 ps c)))
+      (λ h. rw (lt-ltb c 256 h, get_or_table 256 (picture_from 0 ps) c 0 h) (by_number p c (one_or_none 0 ps c)))
       (λ h. rw (le-ltb c 256 h) (member-past a S p c h))
 
   members : (p c : ℕ) → member_before (map_before ps) p c ≡ member_in (map_of ps) p c

@@ -11,7 +11,7 @@ use Rattle.book.specs.Content.{member, pictures_with, symbol_at, padded, sizes, 
 use Rattle.book.specs.Grown.{symbols_of, has_room}
 use Rattle.book.specs.Meant.{member_in}
 use Rattle.book.specs.ByNumbers.{LimitsAre, small_content, SmallRecord}
-use Rattle.book.proofs.Tables.{length_table, get_or-table, get_or-sizes}
+use Rattle.book.proofs.Tables.{length_table, get_or_table, get_or-sizes}
 use Rattle.book.proofs.Pictures.{get_or-map, length-map}
 
 pub limits : LimitsAre
@@ -40,7 +40,7 @@ symbols_long = length_table places symbol_in
 
 symbol_there : (i : ℕ) → i < places → get_or (record_of small_content).symbols i 0 ≡ symbol_in i
 unfolding padded record_of
-symbol_there i h = get_or-table places symbol_in i 0 h
+symbol_there i h = get_or_table places symbol_in i 0 h
 
 lengths_long : length (record_of small_content).lengths ≡ most_rules
 unfolding sizes record_of

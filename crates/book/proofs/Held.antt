@@ -19,9 +19,9 @@ module _ {b : Book} (a : Content) (e : b ≡ record_of a) where
   unfolding record_of
   lengths_held = ap (λ x. x.lengths) e
 
-  pub short-held : Sound a → (k : ℕ) → get_or b.lengths k 0 ≤ most_symbols
+  pub short_held : Sound a → (k : ℕ) → get_or b.lengths k 0 ≤ most_symbols
   unfolding sizes
-  short-held S k =
+  short_held S k =
       rw lengths_held
       (by_lt k most_rules
       (λ h. rw (get_or-sizes most_rules a.rules k h) (S.short k))

@@ -14,7 +14,7 @@ use Rattle.book.specs.Content.{Content, member, table, padded, sizes, map_of, re
 use Rattle.book.specs.Sound.{Sound}
 use Rattle.book.specs.Meant.{rules_of, member_in, rules_in, rules_held}
 use Rattle.book.proofs.Cases.{by_test, by_lt}
-use Rattle.book.proofs.Tables.{length_table, get_or-table, is_table, get_or-padded, get_or-sizes}
+use Rattle.book.proofs.Tables.{length_table, get_or_table, is_table, get_or-padded, get_or-sizes}
 use Rattle.book.proofs.Pictures.{get_or-map, length-map, has_pictures}
 
 -- ---- place by place
@@ -29,11 +29,11 @@ module _ (symbols lengths picture : List ℕ) (n : ℕ) where
 
   pub size_in : (k : ℕ) → k < n → size r k ≡ get_or lengths k 0
   unfolding rules_in
-  size_in k h = ap length (get_or-table n _ k [] h) ∙ length_table (get_or lengths k 0) _
+  size_in k h = ap length (get_or_table n _ k [] h) ∙ length_table (get_or lengths k 0) _
 
   pub symbol_in : (k j : ℕ) → k < n → j < get_or lengths k 0 → symbol r k j ≡ get_or symbols (most_symbols * k + j) 0
   unfolding rules_in
-  symbol_in k j h i = ap (λ l. get_or l j 0) (get_or-table n _ k [] h) ∙ get_or-table (get_or lengths k 0) _ j 0 i
+  symbol_in k j h i = ap (λ l. get_or l j 0) (get_or_table n _ k [] h) ∙ get_or_table (get_or lengths k 0) _ j 0 i
 
 -- ---- the rules of a book
 
@@ -46,7 +46,7 @@ module _ (a : Content) (S : Sound a) where
       let i : k < length a.rules = rw length_table at h in
       let m : k < most_rules = omega (arith, S.few_rules) in
       let s = get_or-sizes most_rules a.rules k m in
-      get_or-table (length a.rules) _ k [] i
+      get_or_table (length a.rules) _ k [] i
       ∙ sym (is_table (get_or (sizes most_rules a.rules) k 0) _ (get_or a.rules k []) (sym s)
       (λ j l. sym (get_or-padded most_rules most_symbols a.rules k j m (omega (arith, S.short k))))))
 

@@ -14,11 +14,11 @@ use Rattle.book.specs.Limits.{most_pictures}
 use Rattle.book.specs.Content.{member, pictures_with, map_of}
 use Rattle.book.specs.Grown.{mark}
 use Rattle.book.proofs.Cases.{by_test, by_lt}
-use Rattle.book.proofs.Tables.{length_table, get_or-table, is_table, at_snoc}
+use Rattle.book.proofs.Tables.{length_table, get_or_table, is_table, at_snoc}
 
 pub get_or-map : (ps : List (List ℕ)) (c : ℕ) → c < 256 → get_or (map_of ps) c 0 ≡ pictures_with ps c
 unfolding map_of
-get_or-map ps c h = get_or-table 256 (pictures_with ps) c 0 h
+get_or-map ps c h = get_or_table 256 (pictures_with ps) c 0 h
 
 pub length-map : (ps : List (List ℕ)) → length (map_of ps) ≡ 256
 unfolding map_of

@@ -3,7 +3,7 @@
 
 ghost use Rattle.std.specs.Prelude.{◌≡◌, ◌+◌, ◌*◌, ◌/◌, ◌<◌, ◌≤◌, length};
 ghost use Rattle.std.proofs.lemmas.List.Edits.{sets};
-ghost use Rattle.sets.specs.Sets.{has as isIn, adding};
+ghost use Rattle.sets.specs.Sets.{has as is_in, adding};
 ghost use Rattle.book.specs.Limits.{most_pictures, most_rules, most_symbols, places, most_rows, most_bytes};
 ghost use Rattle.book.specs.Content.{nothing, record_of};
 ghost use Rattle.book.specs.Grown.{mark, symbols_of, symbols_with, lengths_with};
@@ -112,7 +112,7 @@ fn with(set: u16, p: u8) -> u16
 
 // Whether the picture `p` is in the set.
 fn has(set: u16, p: u16) -> bool
-    ensures { result ≡ isIn set p }
+    ensures { result ≡ is_in set p }
 {
     bits::has(set as u64, p as u32)
 }

@@ -17,7 +17,7 @@ use Rattle.sets.proofs.Zeros.{zero_at}
 
 pub chains_start : (m : ℕ) → m ≡ most_rows → (chain : ℕ → ℕ) → Chains (replicate m 0) (replicate m 0) chain 1
 chains_start m e chain = record {
-  first-long = length-replicate m 0 ∙ e;
+  first_long = length-replicate m 0 ∙ e;
   older_long = length-replicate m 0 ∙ e;
   heads = λ g. rw (zero_at m g) (record { below = omega arith; same = λ z. absurd (z refl); gap = λ j a b. absurd (omega arith) });
   links = λ i l z. absurd (z (omega arith));
@@ -49,7 +49,7 @@ module _ {first older : List ℕ} {old new : ℕ → ℕ} {n g : ℕ} (k : Chain
       elim (order e g) [
         | less l ↦ apart (λ q. omega arith)
         | equal q ↦
-            rw (q, get_or-set_same first g n 0 (omega (arith, k.first-long)))
+            rw (q, get_or-set_same first g n 0 (omega (arith, k.first_long)))
             (record { below = omega arith; same = λ _. p.here; gap = λ j a b. absurd (omega arith) })
         | more l ↦ apart (λ q. omega arith)
       ]
@@ -70,7 +70,7 @@ module _ {first older : List ℕ} {old new : ℕ → ℕ} {n g : ℕ} (k : Chain
 
   pub chains_more : Chains (set first g n) (set older n (get_or first g 0)) new (n + 1)
   chains_more = record {
-    first-long = length-set first g n ∙ k.first-long;
+    first_long = length-set first g n ∙ k.first_long;
     older_long = length-set older n (get_or first g 0) ∙ k.older_long;
     heads = heads_more;
     links = links_more;

@@ -75,9 +75,9 @@ module _ {r : Rules} {lent : ℕ} (short : Short r) where
       record {
         ok =
             record {
-              down = stored_all (λ k e. k ≢ 0 → e < k) a.fall-put ok.down (λ _. hv);
-              first = a.fall-put.kept 0 (omega arith) ∙ ok.first;
-              short-held = stored_all (λ k e. e ≤ most_symbols) a.held-put ok.short-held (omega (arith, on-short short _ _ _ ne));
+              down = stored_all (λ k e. k ≢ 0 → e < k) a.fall_put ok.down (λ _. hv);
+              first = a.fall_put.kept 0 (omega arith) ∙ ok.first;
+              short_held = stored_all (λ k e. e ≤ most_symbols) a.held_put ok.short_held (omega (arith, on-short short _ _ _ ne));
             };
         entry = inr (omega arith);
         rooted = λ _ q. omega arith;

@@ -119,10 +119,10 @@ module _ {lent d : ℕ} where
   row_of_keeps {n = n} {t = t} (there i h k) = kept_refl n t
   row_of_keeps (made new room a) = record {
     grown = omega arith;
-    fall = grew_stored a.fall-put;
-    held = grew_stored a.held-put;
-    live = grew_stored a.live-put;
-    out = grew_stored a.out-put;
+    fall = grew_stored a.fall_put;
+    held = grew_stored a.held_put;
+    live = grew_stored a.live_put;
+    out = grew_stored a.out_put;
   }
 
   row_of_fits : {n h l f e m : ℕ} {t u : Others} → n ≤ lent → RowOf d lent n h l f t u (placed.Entry e m) → m ≤ lent
@@ -159,10 +159,10 @@ module _ {r : Rules} {lent : ℕ} where
         record {
           used = filling-fits room.used f;
           few = room.few;
-          fall-room = rw k.fall.long room.fall-room;
-          held-room = rw k.held.long room.held-room;
-          live-room = rw k.live.long room.live-room;
-          out-room = rw k.out.long room.out-room;
+          fall_room = rw k.fall.long room.fall_room;
+          held_room = rw k.held.long room.held_room;
+          live_room = rw k.live.long room.live_room;
+          out_room = rw k.out.long room.out_room;
         }
 
     pub whole_at : {c m : ℕ} {row : List ℕ} {u : Others} → c ≡ 256 → Filling r lent s via row₀ n₀ t₀ c row m u → RowFilled r lent s via row₀ n₀ t₀ row u (filled.Rows m)
@@ -192,7 +192,7 @@ module _ {r : Rules} {lent s : ℕ} where
   place-rising hs k (root z l) = k
   place-rising hs k (none z l) = k
   place-rising hs k (some l (there i h x)) = k
-  place-rising hs k (some l (made new h a)) = rising_stored hs k a.held-put
+  place-rising hs k (some l (made new h a)) = rising_stored hs k a.held_put
 
   pub filling-rising : {n₀ : ℕ} {via row₀ : List ℕ} {t₀ : Others} → s < n₀ → Rising t₀.held n₀ (get_or t₀.held s 0 + 1)
       → {c n : ℕ} {row : List ℕ} {t : Others} → Filling r lent s via row₀ n₀ t₀ c row n t → Rising t.held n (get_or t.held s 0 + 1)
@@ -204,6 +204,6 @@ module _ {r : Rules} {lent s : ℕ} where
       let k = filling-keeps f in record {
         room = filling-room x.room f;
         row = lt_of_lt_of_le x.row k.grown;
-        short-held = rw (k.held.old _ x.row) x.short-held;
+        short_held = rw (k.held.old _ x.row) x.short_held;
         rising = filling-rising x.row x.rising f;
       }

@@ -51,10 +51,10 @@ place_blank b (root z l) = b
 place_blank b (none z l) = b
 place_blank b (some l (there i h k)) = b
 place_blank b (some l (made new h a)) = record {
-  fall = λ i l. zero_stored a.fall-put (λ j k. b.fall j (omega arith)) i (omega arith);
-  held = λ i l. zero_stored a.held-put (λ j k. b.held j (omega arith)) i (omega arith);
-  live = zero_stored a.live-put b.live;
-  out = zero_stored a.out-put b.out;
+  fall = λ i l. zero_stored a.fall_put (λ j k. b.fall j (omega arith)) i (omega arith);
+  held = λ i l. zero_stored a.held_put (λ j k. b.held j (omega arith)) i (omega arith);
+  live = zero_stored a.live_put b.live;
+  out = zero_stored a.out_put b.out;
 }
 
 filling_blank : {r : Rules} {lent s n₀ : ℕ} {via row₀ : List ℕ} {t₀ : Others} → Blanks n₀ t₀ → {c n : ℕ} {row : List ℕ} {t : Others} → Filling r lent s via row₀ n₀ t₀ c row n t → Blanks n t
@@ -80,7 +80,7 @@ put-entry : (row : List ℕ) (c e : ℕ) → c < length row → Put c e (number_
 put-entry row c e h = put_stored (stored_number c e row h)
 
 added_row : {e n h l f : ℕ} {t u : Others} → Added e n h l f t u → Row n f h l (bit_or e (rules_at t.out f)) (columns_of t) (columns_of u)
-added_row a = record { fall-put = put_stored a.fall-put; held-put = put_stored a.held-put; live-put = put_stored a.live-put; out-put = put_stored a.out-put }
+added_row a = record { fall_put = put_stored a.fall_put; held_put = put_stored a.held_put; live_put = put_stored a.live_put; out_put = put_stored a.out_put }
 
 module _ {r : Rules} (goto via row : List ℕ) {s c : ℕ} (t : Others) {ts : List (List ℕ)} (f : Filled-to r ts (goto_at goto) (number_at via) (number_at row) (columns_of t) s c)
     (l : s < length ts) (byte : c < 256) (wide : c < length row) where
@@ -183,7 +183,7 @@ tables_of k =
       rows = all-rows;
       numbers = k.is.numbers;
       gotos = gotos;
-      rest = record { goto_rest = k.goto_blank; fall-rest = k.blanks.fall; held-rest = k.blanks.held; live-rest = k.blanks.live; out-rest = k.blanks.out };
+      rest = record { goto_rest = k.goto_blank; fall_rest = k.blanks.fall; held_rest = k.blanks.held; live_rest = k.blanks.live; out_rest = k.blanks.out };
     }
 
 module _ {r : Rules} {lent : ℕ} {goto₀ : List ℕ} {t₀ : Others} (small : Short r) (sane : Sane lent 1 goto₀ t₀) (blank : ZeroFrom 0 goto₀) (blanks : Blanks 0 t₀) where
@@ -234,10 +234,10 @@ builds_of {r} small goto t (rows ne f) =
     accepted g.sane.room.used (tables_of k)
     (record {
       goto_long = as_long goto g.long;
-      fall-long = as_long t.fall g.kept.fall.long;
-      held-long = as_long t.held g.kept.held.long;
-      live-long = as_long t.live g.kept.live.long;
-      out-long = as_long t.out g.kept.out.long;
+      fall_long = as_long t.fall g.kept.fall.long;
+      held_long = as_long t.held g.kept.held.long;
+      live_long = as_long t.live g.kept.live.long;
+      out_long = as_long t.out g.kept.out.long;
     })
 builds_of {r} small goto t (empty z) =
     subst (λ (n : ℕ). Builds r (five_of goto t) (zeroed (five_of goto t)) 10 n) z (no_room (subst⁻¹ (MoreThan (Same r)) z (none_lent r)))

@@ -19,12 +19,12 @@ zero_sane goto t ne =
           record {
             used = omega arith;
             few = omega arith;
-            fall-room = rw length-replicate (omega arith);
-            held-room = rw length-replicate (omega arith);
-            live-room = rw length-replicate (omega arith);
-            out-room = rw length-replicate (omega arith);
+            fall_room = rw length-replicate (omega arith);
+            held_room = rw length-replicate (omega arith);
+            live_room = rw length-replicate (omega arith);
+            out_room = rw length-replicate (omega arith);
           };
-      rows = record { down = λ i h nz. absurd (nz (omega arith)); first = zero_at (length t.fall) 0; short-held = λ i h. rw zero_at (omega arith) };
+      rows = record { down = λ i h nz. absurd (nz (omega arith)); first = zero_at (length t.fall) 0; short_held = λ i h. rw zero_at (omega arith) };
       goto_room = rw length-replicate (omega arith);
       entries = λ j. inr (rw zero_at (omega arith));
       last = λ c h q. omega (arith, zero_at (length goto) c);

@@ -46,10 +46,10 @@ pub record Stored (w : ℕ) (read : List ℕ → ℕ → ℕ) (n v : ℕ) (xs ys
 
 -- a new row at n, where the rules e end
 pub record Added (e n h l f : ℕ) (t u : Others) : Type 0 where
-  pub fall-put : Stored 1 number_at n f t.fall u.fall
-  pub held-put : Stored 1 number_at n h t.held u.held
-  pub live-put : Stored row_words rules_at n l t.live u.live
-  pub out-put : Stored row_words rules_at n (bit_or e (rules_at t.out f)) t.out u.out
+  pub fall_put : Stored 1 number_at n f t.fall u.fall
+  pub held_put : Stored 1 number_at n h t.held u.held
+  pub live_put : Stored row_words rules_at n l t.live u.live
+  pub out_put : Stored row_words rules_at n (bit_or e (rules_at t.out f)) t.out u.out
 
 -- ---- the search for a row
 
@@ -85,7 +85,7 @@ pub record Newest (chain : ℕ → ℕ) (n g i : ℕ) : Type 0 where
 
 -- the rows in chains: `first` has the newest row of each chain, and `older` for each row the next one in its chain
 pub record Chains (first older : List ℕ) (chain : ℕ → ℕ) (n : ℕ) : Type 0 where
-  pub first-long : length first ≡ most_rows
+  pub first_long : length first ≡ most_rows
   pub older_long : length older ≡ most_rows
   pub heads : (g : ℕ) → Newest chain n g (get_or first g 0)
   pub links : (i : ℕ) → i < n → i ≢ 0 → Newest chain i (chain i) (get_or older i 0)
@@ -128,13 +128,13 @@ pub data RowFilled (r : Rules) (lent s : ℕ) (via row₀ : List ℕ) (n₀ : �
 
 -- the byte c leads from row s to row e, by falls
 pub record Leads (goto fall : List ℕ) (c s e : ℕ) : Type 0 where
-  pub falls-made : ℕ
-  pub way : Follows (goto_at goto) (number_at fall) c s falls-made e
+  pub falls_made : ℕ
+  pub way : Follows (goto_at goto) (number_at fall) c s falls_made e
 
 -- what the falls from a row rest on: each is below its row, the rows are whole, and row 0 always goes on
 pub record Descends (goto fall : List ℕ) (row : ℕ) : Type 0 where
   pub whole : 256 * (row + 1) ≤ length goto
-  pub falls-within : row < length fall
+  pub falls_within : row < length fall
   pub down : (r : ℕ) → r ≤ row → r ≢ 0 → get_or fall r 0 < r
   pub last : (c : ℕ) → c < 256 → get_or goto c 0 ≢ no_entry
 
@@ -142,23 +142,23 @@ pub record Descends (goto fall : List ℕ) (row : ℕ) : Type 0 where
 pub record RowsUsed (lent n : ℕ) (t : Others) : Type 0 where
   pub used : n ≤ lent
   pub few : lent ≤ most_rows
-  pub fall-room : lent ≤ length t.fall
-  pub held-room : lent ≤ length t.held
-  pub live-room : row_words * lent ≤ length t.live
-  pub out-room : row_words * lent ≤ length t.out
+  pub fall_room : lent ≤ length t.fall
+  pub held_room : lent ≤ length t.held
+  pub live_room : row_words * lent ≤ length t.live
+  pub out_room : row_words * lent ≤ length t.out
 
 -- row s is in hand: no row holds more than one byte more than it
 pub record InHand (lent n s : ℕ) (t : Others) : Type 0 where
   pub room : RowsUsed lent n t
   pub row : s < n
-  pub short-held : get_or t.held s 0 ≤ most_symbols
+  pub short_held : get_or t.held s 0 ≤ most_symbols
   pub rising : Rising t.held n (get_or t.held s 0 + 1)
 
 -- the n rows fall to lower ones, and hold short lengths
 pub record RowsOk (n : ℕ) (t : Others) : Type 0 where
   pub down : (i : ℕ) → i < n → i ≢ 0 → get_or t.fall i 0 < i
   pub first : get_or t.fall 0 0 ≡ 0
-  pub short-held : (i : ℕ) → i < n → get_or t.held i 0 ≤ most_symbols
+  pub short_held : (i : ℕ) → i < n → get_or t.held i 0 ≤ most_symbols
 
 -- an entry of goto, with n rows
 abbrev pub IsEntry : ℕ → ℕ → Type 0

@@ -15,7 +15,7 @@ use Rattle.lines.specs.Lines.{check_of}
 use Rattle.lines.specs.Profile.{counts}
 use Rattle.book.specs.Content.{table}
 use Rattle.shares.specs.Shares.{all_places, limit, amount_at, total_of}
-use Rattle.book.proofs.Tables.{get_or-table}
+use Rattle.book.proofs.Tables.{get_or_table}
 use Rattle.shares.proofs.Tables.{table_same, total_table}
 use Rattle.leaf_totals.specs.declared.LeafTotals.{LeafTotals}
 use Rattle.leaf_totals.specs.declared.Totalled.{Totalled}
@@ -34,7 +34,7 @@ use Rattle.leaves.proofs.Order.{is_full, is_long, is_rowless, is_passed}
 with-same : (t : LeafTotals) (f : ℕ → ℕ) → with_parts t (amount_at (table all_places f)) ≡ with_parts t f
 unfolding with_parts
 with-same t f =
-    let each : (k : ℕ) → k < all_places → amount_at (table all_places f) k ≡ f k = λ k h. get_or-table all_places f k 0 h in
+    let each : (k : ℕ) → k < all_places → amount_at (table all_places f) k ≡ f k = λ k h. get_or_table all_places f k 0 h in
     let totals = table_same most_rules (λ k. total_at t k + amount_at (table all_places f) k) (λ k. total_at t k + f k) (λ k h. ap (λ x. total_at t k + x) (each k (omega arith))) in
     rw (totals, each unnamed (omega arith))
 

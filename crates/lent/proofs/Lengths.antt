@@ -8,13 +8,13 @@ lent_rows = record {
   one_more = refl;
   many_more = refl;
   goto_less = refl;
-  fall-less = refl;
-  held-less = refl;
-  live-less = refl;
-  out-less = refl;
+  fall_less = refl;
+  held_less = refl;
+  live_less = refl;
+  out_less = refl;
   no_row = refl;
   one_row = refl;
-  two_rows_lem = refl;
+  two_rows = refl;
 }
 
 pub rows_had : RowsHad

@@ -9,24 +9,24 @@ pub record LentRows : Type 0 where
   pub one_more : lent_of 1048832 4097 4097 16388 16388 ≡ 4096
   pub many_more : lent_of 16777216 65536 65536 262144 262144 ≡ 4096
   pub goto_less : lent_of 1048575 4096 4096 16384 16384 ≡ 4095
-  pub fall-less : lent_of 1048576 4095 4096 16384 16384 ≡ 4095
-  pub held-less : lent_of 1048576 4096 4095 16384 16384 ≡ 4095
-  pub live-less : lent_of 1048576 4096 4096 16383 16384 ≡ 4095
-  pub out-less : lent_of 1048576 4096 4096 16384 16383 ≡ 4095
+  pub fall_less : lent_of 1048576 4095 4096 16384 16384 ≡ 4095
+  pub held_less : lent_of 1048576 4096 4095 16384 16384 ≡ 4095
+  pub live_less : lent_of 1048576 4096 4096 16383 16384 ≡ 4095
+  pub out_less : lent_of 1048576 4096 4096 16384 16383 ≡ 4095
   pub no_row : lent_of 255 9 9 36 36 ≡ 0
   pub one_row : lent_of 511 9 9 36 36 ≡ 1
-  pub two_rows_lem : lent_of 512 9 9 11 36 ≡ 2
+  pub two_rows : lent_of 512 9 9 11 36 ≡ 2
 
 -- two rows of zeros
-abbrev pub two_rows : Five
-two_rows = five (replicate 512 0) (0 ∷ 0 ∷ []) (0 ∷ 0 ∷ []) (replicate 8 0) (replicate 8 0)
+abbrev pub of_two_rows : Five
+of_two_rows = five (replicate 512 0) (0 ∷ 0 ∷ []) (0 ∷ 0 ∷ []) (replicate 8 0) (replicate 8 0)
 
 -- of two rows lent, N is none, one, two and three
 pub record RowsHad : Type 0 where
-  pub none : has_rows two_rows 0 ≡ false
-  pub one : has_rows two_rows 1 ≡ true
-  pub two : has_rows two_rows 2 ≡ true
-  pub three : has_rows two_rows 3 ≡ false
+  pub none : has_rows of_two_rows 0 ≡ false
+  pub one : has_rows of_two_rows 1 ≡ true
+  pub two : has_rows of_two_rows 2 ≡ true
+  pub three : has_rows of_two_rows 3 ≡ false
 
 -- what is made 0, and where four words come to stand
 pub record EntriesLeft : Type 0 where

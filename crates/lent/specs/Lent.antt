@@ -51,10 +51,10 @@ zeroed b = five (zeros b.goto) (zeros b.fall) (zeros b.held) (zeros b.live) (zer
 -- each is as long as it was
 pub record AsLong (old b : Five) : Type 0 where
   pub goto_long : length b.goto ≡ length old.goto
-  pub fall-long : length b.fall ≡ length old.fall
-  pub held-long : length b.held ≡ length old.held
-  pub live-long : length b.live ≡ length old.live
-  pub out-long : length b.out ≡ length old.out
+  pub fall_long : length b.fall ≡ length old.fall
+  pub held_long : length b.held ≡ length old.held
+  pub live_long : length b.live ≡ length old.live
+  pub out_long : length b.out ≡ length old.out
 
 -- a table of sets with these words in row n; as it was where it has no such row, or where the words are not as many as a row's
 abbrev pub stored_row : List ℕ → ℕ → List ℕ → List ℕ

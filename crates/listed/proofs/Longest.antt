@@ -47,5 +47,5 @@ module _ (r : Rules) (text : List ℕ) where
   pub held-longest : Longest r text (held r (reverse text))
   held-longest = record {
     opens = λ h. level-opens (held r (reverse text)) (held-top r (reverse text) h);
-    none-longer = λ j h x. opens-level j x (held_above r (reverse text) j h);
+    none_longer = λ j h x. opens-level j x (held_above r (reverse text) j h);
   }

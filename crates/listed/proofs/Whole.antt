@@ -15,7 +15,7 @@ use Rattle.listed.proofs.Demands.{matches}
 
 -- the buffers are as long as before, so the rows are lent
 pub built : {r : Rules} {old b : Five} {i v : ℕ} → Builds r old b i v → i ≡ 0 → Tables r b v × (v ≤ lent b)
-built (accepted l t long) z = (t, rw (long.goto_long, long.fall-long, long.held-long, long.live-long, long.out-long) l)
+built (accepted l t long) z = (t, rw (long.goto_long, long.fall_long, long.held_long, long.live_long, long.out_long) l)
 built (no_room m) z = absurd (omega arith)
 
 pub searches : Searches

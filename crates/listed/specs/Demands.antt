@@ -99,7 +99,7 @@ pub record Opens (r : Rules) (text : List ℕ) (j : ℕ) : Type 0 where
 -- h is the length of the longest such ending, and 0 where there is none.
 pub record Longest (r : Rules) (text : List ℕ) (h : ℕ) : Type 0 where
   pub opens : 0 < h → Opens r text h
-  pub none-longer : (j : ℕ) → h < j → ¬ Opens r text j
+  pub none_longer : (j : ℕ) → h < j → ¬ Opens r text j
 
 -- Of an accepted walk that answers so many fallbacks and this held length.
 pub record Demand3 (r : Rules) (w : WalkCall) (falls h : ℕ) : Type 0 where

@@ -5,7 +5,7 @@ use Rattle.output.specs.Printed.{Puts, refused_line, answer_lines}
 use Rattle.shown.specs.Shown.{shown_lines}
 use Rattle.meaning.specs.Tables.{Five}
 use Rattle.promised.specs.declared.Built.{Built}
-use Rattle.promised.specs.Promise.{Promise, number_of as builtNumber, value_of as builtValue}
+use Rattle.promised.specs.Promise.{Promise, number_of as built_number, value_of as built_value}
 use Rattle.answers.specs.declared.Walked.{Walked}
 use Rattle.answers.specs.declared.Walked.TheVariants.{Accepted, TooLong, BadRows, Damaged, NoRoom}
 use Rattle.answers.specs.Walked.{number_of, value_of}
@@ -40,4 +40,4 @@ pub record ListerAnswer (book text answer : List ℕ) : Type 0 where
   pub built : Built
   pub tables : Five
   pub kept : Promise book lent_tables tables built
-  pub lines : answer ≡ answer_lines (builtNumber built) (builtValue built) (search_lines tables (builtValue built) text)
+  pub lines : answer ≡ answer_lines (built_number built) (built_value built) (search_lines tables (built_value built) text)

@@ -73,10 +73,10 @@ put_all {n} P x below at i l =
 
 -- a row more in the four tables
 pub record Row (n f h l o : ℕ) (x y : Columns) : Type 0 where
-  pub fall-put : Put n f x.fall y.fall
-  pub held-put : Put n h x.held y.held
-  pub live-put : Put n l x.live y.live
-  pub out-put : Put n o x.out y.out
+  pub fall_put : Put n f x.fall y.fall
+  pub held_put : Put n h x.held y.held
+  pub live_put : Put n l x.live y.live
+  pub out_put : Put n o x.out y.out
 
 module _ {r : Rules} {ts : List (List ℕ)} {x : Columns} (numbers : Numbers r ts x) (u : List ℕ) where
   abbrev us : List (List ℕ)
@@ -92,11 +92,11 @@ module _ {r : Rules} {ts : List (List ℕ)} {x : Columns} (numbers : Numbers r t
   numbers_more : {v h a o : ℕ} {y : Columns} → Row (length ts) v h a o x y → IsRow (Same r) ts (shorter r u) v → h ≡ held r u → a ≡ live r u → o ≡ out r u
       → Numbers r us y
   numbers_more w f qh qa qo = record {
-    fall_is = grow (λ t y. IsFall r us t y) w.fall-put
+    fall_is = grow (λ t y. IsFall r us t y) w.fall_put
         (λ i k. row_fall (row_append (congruence r) (u ∷ []) (fall_row (numbers.fall_is i k)))) (row_fall (row_append (congruence r) (u ∷ []) f));
-    held_is = grow (λ t y. y ≡ held r t) w.held-put numbers.held_is qh;
-    live_is = grow (λ t y. y ≡ live r t) w.live-put numbers.live_is qa;
-    out_is = grow (λ t y. y ≡ out r t) w.out-put numbers.out_is qo;
+    held_is = grow (λ t y. y ≡ held r t) w.held_put numbers.held_is qh;
+    live_is = grow (λ t y. y ≡ live r t) w.live_put numbers.live_is qa;
+    out_is = grow (λ t y. y ≡ out r t) w.out_put numbers.out_is qo;
   }
 
 -- ---- the bytes of row s, in order

@@ -7,7 +7,7 @@ use native.Mathlib.Nat.{eq-zero-or-pos}
 use native.Mathlib.Omega.{arith}
 use lib.ListN.{length, get_or}
 use Rattle.rows.specs.Rows.{IsRow, Ascending}
-use Rattle.rows.proofs.Order.{shorter as before-shorter}
+use Rattle.rows.proofs.Order.{shorter as before_shorter}
 use Rattle.rows.proofs.Rows.{row_before, row_own, row_same, one_row}
 use Rattle.meaning.specs.Rules.{Rules}
 use Rattle.meaning.specs.Standing.{Same, held}
@@ -36,7 +36,7 @@ module _ {r : Rules} {ts : List (List ℕ)} (asc : Ascending (Same r) ts) (root 
   fall-lower s v l p x =
       let t = get_or ts s [] in
       row_before asc s l (bytes-shorter r t (asc.bytes s l)) (fall_row x)
-      (before-shorter (shorter r t) t (length-shorter r t (held_pos s t (row_own (congruence r) ts s l) p)))
+      (before_shorter (shorter r t) t (length-shorter r t (held_pos s t (row_own (congruence r) ts s l) p)))
 
   -- row 0 falls to row 0
   pub fall-root : {v : ℕ} → IsFall r ts (get_or ts 0 []) v → v ≡ 0

@@ -65,13 +65,13 @@ module _ {r : Rules} {b b' : Five} {n : ℕ} (x : Tables r b n) (y : Tables r b'
       let (wl, wl', wo, wo') = a.words in
       λ i. record {
         goto = same_list (256 * n) b.goto b'.goto a.goto x.rest.goto_rest y.rest.goto_rest goto_same i;
-        fall = same_list n b.fall b'.fall a.fall x.rest.fall-rest y.rest.fall-rest
+        fall = same_list n b.fall b'.fall a.fall x.rest.fall_rest y.rest.fall_rest
             (λ j l. let k : j < length x.texts = omega (arith, x.count) in
             one_row (congruence r) x.rows.ascending (fall_row (x.numbers.fall_is j k)) (fall_row (numbers'.fall_is j k))) i;
-        held = same_list n b.held b'.held a.held x.rest.held-rest y.rest.held-rest (by_row x.numbers.held_is numbers'.held_is) i;
-        live = same_list (row_words * n) b.live b'.live a.live x.rest.live-rest y.rest.live-rest
+        held = same_list n b.held b'.held a.held x.rest.held_rest y.rest.held_rest (by_row x.numbers.held_is numbers'.held_is) i;
+        live = same_list (row_words * n) b.live b'.live a.live x.rest.live_rest y.rest.live_rest
             (same_table row_words n b.live b'.live wl wl' (by_row x.numbers.live_is numbers'.live_is)) i;
-        out = same_list (row_words * n) b.out b'.out a.out x.rest.out-rest y.rest.out-rest
+        out = same_list (row_words * n) b.out b'.out a.out x.rest.out_rest y.rest.out_rest
             (same_table row_words n b.out b'.out wo wo' (by_row x.numbers.out_is numbers'.out_is)) i;
       }
 

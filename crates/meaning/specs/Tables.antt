@@ -69,10 +69,10 @@ ZeroFrom n xs = (i : ℕ) → n ≤ i → get_or xs i 0 ≡ 0
 -- every entry past the last of n rows is 0
 pub record Rest (n : ℕ) (b : Five) : Type 0 where
   pub goto_rest : ZeroFrom (256 * n) b.goto
-  pub fall-rest : ZeroFrom n b.fall
-  pub held-rest : ZeroFrom n b.held
-  pub live-rest : ZeroFrom (row_words * n) b.live
-  pub out-rest : ZeroFrom (row_words * n) b.out
+  pub fall_rest : ZeroFrom n b.fall
+  pub held_rest : ZeroFrom n b.held
+  pub live_rest : ZeroFrom (row_words * n) b.live
+  pub out_rest : ZeroFrom (row_words * n) b.out
 
 -- the buffers hold the tables of the rules r, with n rows
 pub record Tables (r : Rules) (b : Five) (n : ℕ) : Type 0 where

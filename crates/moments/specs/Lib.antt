@@ -1,2 +1,2 @@
--- What contracts call the two moments of a call. Assumes nothing.
+-- The two moments of a call by name. Assumes nothing.
 pub mod Moments

@@ -34,7 +34,7 @@ refused_so {why} {old = old} {b} {i} {v} e p = go (subst (λ (m : Meaning). Answ
 
 -- a refused book, whichever rows are lent
 pub refusing : (bytes : List ℕ) {why : Refusal} → meaning_of bytes ≡ refused why → Holds (build bytes 0 most_rows (number why) (value why) found)
-refusing bytes e old b x l h p = let (n, v, same) = refused_so e p in record { number_is = n; value-is = v; leaves = same }
+refusing bytes e old b x l h p = let (n, v, same) = refused_so e p in record { number_is = n; value_is = v; leaves = same }
 
 -- ---- by the rows
 
@@ -71,7 +71,7 @@ module _ (w : Written) (y : Right w) where
 
   builds-enough : {old b : Five} {i v : ℕ} → rows ≤ lent old → length w.held ≡ rows → length w.fall ≡ rows → Builds w.book old b i v
       → (i ≡ 0) × (v ≡ rows) × (take (length w.held) b.held ≡ w.held) × (take (length w.fall) b.fall ≡ w.fall)
-  builds-enough l e f (accepted h t k) = (refl, rows_are t, held_are t (omega (arith, k.held-long)) e, fall_are t (omega (arith, k.fall-long)) f)
+  builds-enough l e f (accepted h t k) = (refl, rows_are t, held_are t (omega (arith, k.held_long)) e, fall_are t (omega (arith, k.fall_long)) f)
   builds-enough l e f (no_room m) = absurd (not_both (congruence w.book) (few l) m)
 
   builds_fewer : {old b : Five} {i v : ℕ} → lent old < rows → Builds w.book old b i v → (i ≡ 10) × (v ≡ lent old) × (b ≡ zeroed old)
@@ -85,7 +85,7 @@ module _ {a : Content} {w : Written} {bytes : List ℕ} (e : Means bytes a) (y :
   enough h f old b x l _ p =
       let t = rw (← q) at (of_sound a e.meant p) in
       let (n, v, hs, fs) = builds-enough w y l h f t in
-      record { number_is = n; value-is = v; leaves = (hs, fs) }
+      record { number_is = n; value_is = v; leaves = (hs, fs) }
 
   -- with n rows, which are fewer
   pub fewer : (n : ℕ) → n < length w.rows → Holds (build bytes n n 10 n cleared)
@@ -93,4 +93,4 @@ module _ {a : Content} {w : Written} {bytes : List ℕ} (e : Means bytes a) (y :
       let t = rw (← q) at (of_sound a e.meant p) in
       let k : lent old < length w.rows = omega arith in
       let (i, v, z) = builds_fewer w y k t in
-      record { number_is = i; value-is = v ∙ omega arith; leaves = z }
+      record { number_is = i; value_is = v ∙ omega arith; leaves = z }

@@ -71,7 +71,7 @@ Leaves (tables held fall) old b = (take (length held) b.held ≡ held) × (take 
 -- an answer and buffers that keep the promise of a build are these
 pub record Answered (old b : Five) (x : Built) (number value : ℕ) (left : Left) : Type 0 where
   pub number_is : number_of x ≡ number
-  pub value-is : value_of x ≡ value
+  pub value_is : value_of x ≡ value
   pub leaves : Leaves left old b
 
 -- a call of the walk gives this answer and this report buffer

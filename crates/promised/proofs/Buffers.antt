@@ -18,10 +18,10 @@ pub all-zero : (b : Five) → Cleared b (zeroed b)
 all-zero b = record {
   long = record {
     goto_long = length-replicate {A = ℕ} (length b.goto) 0;
-    fall-long = length-replicate {A = ℕ} (length b.fall) 0;
-    held-long = length-replicate {A = ℕ} (length b.held) 0;
-    live-long = length-replicate {A = ℕ} (length b.live) 0;
-    out-long = length-replicate {A = ℕ} (length b.out) 0;
+    fall_long = length-replicate {A = ℕ} (length b.fall) 0;
+    held_long = length-replicate {A = ℕ} (length b.held) 0;
+    live_long = length-replicate {A = ℕ} (length b.live) 0;
+    out_long = length-replicate {A = ℕ} (length b.out) 0;
   };
   goto_is = zero_at (length b.goto);
   fall_is = zero_at (length b.fall);
@@ -43,10 +43,10 @@ built (accepted l t k) = record {
   zeroes = λ z. absurd (omega arith);
   past = λ z. record {
     goto_past = t.rest.goto_rest;
-    fall-past = t.rest.fall-rest;
-    held-past = t.rest.held-rest;
-    live-past = t.rest.live-rest;
-    out-past = t.rest.out-rest;
+    fall_past = t.rest.fall_rest;
+    held_past = t.rest.held_rest;
+    live_past = t.rest.live_rest;
+    out_past = t.rest.out_rest;
   };
   long = k;
 }
@@ -58,7 +58,7 @@ answered (refuses {why}) = record {
   found = λ some ten. refl;
   zeroes = λ z. absurd (not_ten why z);
   past = λ z. absurd (omega (arith, (number_some why).0));
-  long = record { goto_long = refl; fall-long = refl; held-long = refl; live-long = refl; out-long = refl };
+  long = record { goto_long = refl; fall_long = refl; held_long = refl; live_long = refl; out_long = refl };
 }
 
 pub after_build : AfterBuild

@@ -98,11 +98,11 @@ room_exactly c = go (verdict c.promise)
 alike : {old b b' : Five} → AsLong old b → AsLong old b' → OfWords b → OfWords b' → Alike b b'
 alike x y w w' = record {
   goto = x.goto_long ∙ sym y.goto_long;
-  fall = x.fall-long ∙ sym y.fall-long;
-  held = x.held-long ∙ sym y.held-long;
-  live = x.live-long ∙ sym y.live-long;
-  out = x.out-long ∙ sym y.out-long;
-  words = (w.live-words, w'.live-words, w.out-words, w'.out-words);
+  fall = x.fall_long ∙ sym y.fall_long;
+  held = x.held_long ∙ sym y.held_long;
+  live = x.live_long ∙ sym y.live_long;
+  out = x.out_long ∙ sym y.out_long;
+  words = (w.live_words, w'.live_words, w.out_words, w'.out_words);
 }
 
 -- the same number, value and buffers

@@ -17,10 +17,10 @@ pub record Cleared (old b : Five) : Type 0 where
 -- every entry from n rows on is 0: a row has 256 entries of goto, one of fall and of held, four of live and of out
 pub record ZeroPast (n : ℕ) (b : Five) : Type 0 where
   pub goto_past : (i : ℕ) → 256 * n ≤ i → get_or b.goto i 0 ≡ 0
-  pub fall-past : (i : ℕ) → n ≤ i → get_or b.fall i 0 ≡ 0
-  pub held-past : (i : ℕ) → n ≤ i → get_or b.held i 0 ≡ 0
-  pub live-past : (i : ℕ) → 4 * n ≤ i → get_or b.live i 0 ≡ 0
-  pub out-past : (i : ℕ) → 4 * n ≤ i → get_or b.out i 0 ≡ 0
+  pub fall_past : (i : ℕ) → n ≤ i → get_or b.fall i 0 ≡ 0
+  pub held_past : (i : ℕ) → n ≤ i → get_or b.held i 0 ≡ 0
+  pub live_past : (i : ℕ) → 4 * n ≤ i → get_or b.live i 0 ≡ 0
+  pub out_past : (i : ℕ) → 4 * n ≤ i → get_or b.out i 0 ≡ 0
 
 -- 1 to 9, 17 and 18 leave all as found; 10 leaves every entry 0; after 0 every entry past the rows used is 0; none changes a length
 pub record BuffersAfter (c : BuildCall) : Type 0 where

@@ -49,8 +49,8 @@ RowsOrMore = (r : Rules) (n : ℕ) → JustOne r n
 
 -- live and out are words of 64 bits, as the buffers lent are
 pub record OfWords (b : Five) : Type 0 where
-  pub live-words : (i : ℕ) → get_or b.live i 0 < 2 ^ 64
-  pub out-words : (i : ℕ) → get_or b.out i 0 < 2 ^ 64
+  pub live_words : (i : ℕ) → get_or b.live i 0 < 2 ^ 64
+  pub out_words : (i : ℕ) → get_or b.out i 0 < 2 ^ 64
 
 -- two answers and two sets of buffers that keep the promise are equal
 abbrev pub OneOutcome : Type 0

@@ -11,7 +11,7 @@ use Rattle.format.specs.Format.{Meaning, means, refused, meaning_of}
 use Rattle.reader.specs.Handed.{handed, read_of}
 use Rattle.rows.specs.Rows.{ByteText}
 use Rattle.format.specs.Lawful.{Accepting}
-use Rattle.book.proofs.Held.{rules-held, short-held}
+use Rattle.book.proofs.Held.{rules-held, short_held}
 use Rattle.format.proofs.Sizes.{lawful}
 use Rattle.book.proofs.Meant.{rules-same-held}
 
@@ -31,7 +31,7 @@ module _ (s : List ℕ) {x : ReadBook} (q : x ≡ read_of s) where
             held = h;
             same = rules-same-held a l.sound h;
             few = rw (rules-held a h) l.sound.few_rules;
-            short = short-held a h l.sound;
+            short = short_held a h l.sound;
           }
       go (refused y) e w = let z : x.answer ≡ Refused y = ap (λ y. y.answer) w in absurd (let o : ◌≡◌ {A = ℕ} 0 1 = cc in omega arith)
 

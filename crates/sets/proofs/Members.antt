@@ -179,8 +179,8 @@ members_step n s p h =
     put : (k : ℕ) → has s k ≡ has r k || eqb k t
     put k = ap (λ x. has x k) (sym f.plus) ∙ has-plus r t k f.out
 
-pub first-is : (n s : ℕ) → s < 2 ^ n → count_trailing_zeros n s ≡ get_or (members n s) 0 n
-first-is n s h =
+pub first_is : (n s : ℕ) → s < 2 ^ n → count_trailing_zeros n s ≡ get_or (members n s) 0 n
+first_is n s h =
     ⊎_elim
     (λ (e : s ≡ 0). rw (e, members-empty n) (trailing_of_zero n))
     (λ (p : 0 < s). rw (members_step n s p h))

@@ -17,7 +17,7 @@ use Rattle.shares.proofs.Below.{sum_same}
 use Rattle.shares.proofs.Ranks.{Before, larger, lower}
 use Rattle.shares.proofs.Laws.{shares_add, shares_only, share_exact, share_rounded, share-ahead}
 use Rattle.shares.proofs.Cases.{is_past, is_nothing, is_given}
-use Rattle.book.proofs.Tables.{length_table, get_or-table}
+use Rattle.book.proofs.Tables.{length_table, get_or_table}
 
 module _ (totals : List ℕ) where
   abbrev whole : ℕ
@@ -48,7 +48,7 @@ module _ (totals : List ℕ) where
 
   module _ (h : 0 < whole) (l : whole ≤ limit) where
     share_is : (i : ℕ) → i < all_places → share totals i ≡ share_in (amount_at totals) all_places whole i
-    share_is i b = ap (λ (x : List ℕ). get_or x i 0) (parts_of (is_given totals h l)) ∙ get_or-table all_places (share_in (amount_at totals) all_places whole) i 0 b
+    share_is i b = ap (λ (x : List ℕ). get_or x i 0) (parts_of (is_given totals h l)) ∙ get_or_table all_places (share_in (amount_at totals) all_places whole) i 0 b
 
     shared_all : Shared totals
     shared_all = record {
@@ -89,7 +89,7 @@ module _ (totals : List ℕ) where
     given = λ l. rw (le-ltb limit whole l) (refl, refl);
     shared = shared_all;
     past = λ h. rw (lt-ltb limit whole h) (refl, refl);
-    past-none = λ h. all-zero (parts_of (is_past totals h));
+    past_none = λ h. all-zero (parts_of (is_past totals h));
     nothing = λ e. all-zero (parts_of (is_nothing totals e));
     none = λ i z. nought i z case;
   }

@@ -6,7 +6,7 @@ use native.Mathlib.Omega.{arith}
 use native.Mathlib.Decide.{dec_lt}
 use lib.ListN.{length, get_or, set, length-set}
 use lib.Seq.{get_or-set_same, get_or-set_other}
-use Rattle.book.proofs.Tables.{length_table, get_or-table, is_table}
+use Rattle.book.proofs.Tables.{length_table, get_or_table, is_table}
 use Rattle.shares.specs.Below.{sum_below}
 use Rattle.book.specs.Content.{table}
 use Rattle.shares.specs.Shares.{all_places, amount_at, total_of}
@@ -14,10 +14,10 @@ use Rattle.shares.proofs.Below.{sum_same}
 
 -- tables of terms that agree, and their total
 pub table_same : (n : ℕ) (f g : ℕ → ℕ) → ((k : ℕ) → k < n → f k ≡ g k) → table n f ≡ table n g
-table_same n f g e = is_table n g (table n f) (length_table n f) (λ k h. get_or-table n f k 0 h ∙ e k h)
+table_same n f g e = is_table n g (table n f) (length_table n f) (λ k h. get_or_table n f k 0 h ∙ e k h)
 
 pub total_table : (f : ℕ → ℕ) → total_of (table all_places f) ≡ sum_below f all_places
-total_table f = sum_same (amount_at (table all_places f)) f all_places (λ p h. get_or-table all_places f p 0 h)
+total_table f = sum_same (amount_at (table all_places f)) f all_places (λ p h. get_or_table all_places f p 0 h)
 
 -- ---- a table that is filled from the front
 

@@ -42,7 +42,7 @@ pub record Demanded (totals : List ℕ) : Type 0 where
   pub shared : 0 < total_of totals → total_of totals ≤ limit → Shared totals
   -- past it: 20, and all shares are 0
   pub past : limit < total_of totals → (number_of (shares_of totals).answer ≡ 20) × (value_of (shares_of totals).answer ≡ limit)
-  pub past-none : limit < total_of totals → (i : ℕ) → share totals i ≡ 0
+  pub past_none : limit < total_of totals → (i : ℕ) → share totals i ≡ 0
   -- all shares of nothing are 0, and so is the share of a total of 0
   pub nothing : total_of totals ≡ 0 → (i : ℕ) → share totals i ≡ 0
   pub none : (i : ℕ) → amount_at totals i ≡ 0 → share totals i ≡ 0

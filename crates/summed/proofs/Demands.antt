@@ -85,7 +85,7 @@ module _ (w : TallyCall) where
   found_length = lines-length (move_by w.tables w.n) (rules_at w.tables.out) w.profile (replicate most_rules 0) ∙ length-replicate {A = ℕ} most_rules 0
 
   answers : {a : Tallied} → tally_answer w ≡ a → TallyAnswers w (number_of a) (value_of a)
-  answers e = record { number_is = rw e; value-is = rw e }
+  answers e = record { number_is = rw e; value_is = rw e }
 
   -- ---- before the lines
 
@@ -98,8 +98,8 @@ module _ (w : TallyCall) where
       let ne : w.n ≢ 0 = omega arith in
       answers {a = BadRows w.n} (rw (le-ltb most_bytes (length w.profile) short, few-lent w.tables w.n ne l))
 
-  few-sums : length w.profile ≤ most_bytes → w.n ≢ 0 → w.n ≤ lent w.tables → length w.sums < most_rules → TallyAnswers w 16 (length w.sums)
-  few-sums short ne lends l =
+  few_sums : length w.profile ≤ most_bytes → w.n ≢ 0 → w.n ≤ lent w.tables → length w.sums < most_rules → TallyAnswers w 16 (length w.sums)
+  few_sums short ne lends l =
       answers {a = FewSums (length w.sums)} (rw (le-ltb most_bytes (length w.profile) short, rows-lent w.tables w.n ne lends, lt-ltb (length w.sums) most_rules l))
 
   -- it is refused before its lines, or gets to them
@@ -113,7 +113,7 @@ module _ (w : TallyCall) where
   start-rows : length w.profile ≤ most_bytes → w.n ≢ 0 → w.n ≤ lent w.tables → Start
   start-rows short ne lends =
       elim (dec_lt (length w.sums) most_rules) [
-        | yes l ↦ refused_with (few-sums short ne lends l) (λ z. omega arith) (λ z. omega arith)
+        | yes l ↦ refused_with (few_sums short ne lends l) (λ z. omega arith) (λ z. omega arith)
         | no j ↦ ready (record { short = short; some = ne; lends = lends; places = omega arith })
       ]
 
@@ -161,7 +161,7 @@ module _ (w : TallyCall) where
   refusals = record {
     too_long = too_long;
     bad_rows = bad_rows;
-    few-sums = few-sums;
+    few_sums = few_sums;
     bad_line = λ x i b. answers (answer_is x (broken_at w.profile i b));
     damaged = λ x s i j c f. walks_answer x s (lost_at w x i j c f);
     accepted = λ x s h. walks_answer x s (none_lost w x h);

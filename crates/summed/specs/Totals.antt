@@ -12,10 +12,10 @@ use Rattle.book.specs.Content.{Content}
 use Rattle.format.specs.Format.{means, meaning_of}
 use Rattle.book.specs.Meant.{rules_of}
 use Rattle.lent.specs.Lent.{lent}
-use Rattle.promised.specs.Promise.{number_of as numberBuilt, value_of as valueBuilt, Promise}
+use Rattle.promised.specs.Promise.{number_of as number_built, value_of as value_built, Promise}
 use Rattle.promised.specs.declared.Built.{Built}
 use Rattle.answers.specs.declared.Walked.{Walked}
-use Rattle.answers.specs.Walked.{number_of as numberOfWalk, value_of as valueOfWalk}
+use Rattle.answers.specs.Walked.{number_of as number_of_walk, value_of as value_of_walk}
 use Rattle.walk.specs.Walk.{reports_of, walk_of}
 use Rattle.meaning.specs.Occurrences.{Occurs}
 use Rattle.lines.specs.Lines.{lines_of}
@@ -43,7 +43,7 @@ sums_after w = buffer_of (tally_answer w) (sums_of (move_by w.tables w.n) (rules
 -- it answers with this number and this value
 pub record TallyAnswers (w : TallyCall) (number value : ℕ) : Type 0 where
   pub number_is : number_of (tally_answer w) ≡ number
-  pub value-is : value_of (tally_answer w) ≡ value
+  pub value_is : value_of (tally_answer w) ≡ value
 
 -- ---- lines and frames
 
@@ -62,14 +62,14 @@ walk_over w i j = walk_of w.tables w.n (frame_at w.profile i j) 0
 pub record FirstLost (w : TallyCall) (i j x : ℕ) : Type 0 where
   pub line : i < length (lines_of w.profile)
   pub frame : j < length (frames_in (get_or (lines_of w.profile) i []))
-  pub lost : numberOfWalk (walk_over w i j) ≡ 13
-  pub byte : valueOfWalk (walk_over w i j) ≡ x
-  pub lines_before : (k : ℕ) → k < i → (l : ℕ) → l < length (frames_in (get_or (lines_of w.profile) k [])) → numberOfWalk (walk_over w k l) ≢ 13
-  pub frames_before : (l : ℕ) → l < j → numberOfWalk (walk_over w i l) ≢ 13
+  pub lost : number_of_walk (walk_over w i j) ≡ 13
+  pub byte : value_of_walk (walk_over w i j) ≡ x
+  pub lines_before : (k : ℕ) → k < i → (l : ℕ) → l < length (frames_in (get_or (lines_of w.profile) k [])) → number_of_walk (walk_over w k l) ≢ 13
+  pub frames_before : (l : ℕ) → l < j → number_of_walk (walk_over w i l) ≢ 13
 
 -- no walk over a frame is refused with 13
 abbrev pub NoneLost : TallyCall → Type 0
-NoneLost w = (i : ℕ) → i < length (lines_of w.profile) → (j : ℕ) → j < length (frames_in (get_or (lines_of w.profile) i [])) → numberOfWalk (walk_over w i j) ≢ 13
+NoneLost w = (i : ℕ) → i < length (lines_of w.profile) → (j : ℕ) → j < length (frames_in (get_or (lines_of w.profile) i [])) → number_of_walk (walk_over w i j) ≢ 13
 
 -- ---- sums
 
@@ -105,7 +105,7 @@ module _ (test : List ℕ → Bool) where
 pub record TallyRefusals (w : TallyCall) : Type 0 where
   pub too_long : most_bytes < length w.profile → TallyAnswers w 11 most_bytes
   pub bad_rows : length w.profile ≤ most_bytes → (w.n ≡ 0) ⊎ (lent w.tables < w.n) → TallyAnswers w 12 w.n
-  pub few-sums : length w.profile ≤ most_bytes → w.n ≢ 0 → w.n ≤ lent w.tables → length w.sums < most_rules → TallyAnswers w 16 (length w.sums)
+  pub few_sums : length w.profile ≤ most_bytes → w.n ≢ 0 → w.n ≤ lent w.tables → length w.sums < most_rules → TallyAnswers w 16 (length w.sums)
   pub bad_line : Ready w → (i : ℕ) → FirstBroken (lines_of w.profile) i → TallyAnswers w 15 (start_of 0 (lines_of w.profile) i)
   pub damaged : Ready w → AllSound (lines_of w.profile) → (i j x : ℕ) → FirstLost w i j x
       → TallyAnswers w 13 (start_of 0 (lines_of w.profile) i + start_of 0 (frames_in (get_or (lines_of w.profile) i [])) j + x)
@@ -166,5 +166,5 @@ pub record Tells (bytes : List ℕ) (b : Five) (n : ℕ) (profile sums : List �
 
 -- Any buffers that a build of the bytes left which gave 0, tallied with the value that it gave.
 abbrev pub Tallies : Type 0
-Tallies = (bytes : List ℕ) → ByteText bytes → (old b : Five) (x : Built) → Promise bytes old b x → numberBuilt x ≡ 0 → (profile sums : List ℕ) → ByteText profile
-    → Tells bytes b (valueBuilt x) profile sums
+Tallies = (bytes : List ℕ) → ByteText bytes → (old b : Five) (x : Built) → Promise bytes old b x → number_built x ≡ 0 → (profile sums : List ℕ) → ByteText profile
+    → Tells bytes b (value_built x) profile sums

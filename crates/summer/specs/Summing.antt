@@ -6,7 +6,7 @@ use Rattle.output.specs.Printed.{Puts, refused_line, answer_lines}
 use Rattle.shown.specs.Shown.{sum_lines}
 use Rattle.meaning.specs.Tables.{Five}
 use Rattle.promised.specs.declared.Built.{Built}
-use Rattle.promised.specs.Promise.{Promise, number_of as builtNumber, value_of as builtValue}
+use Rattle.promised.specs.Promise.{Promise, number_of as built_number, value_of as built_value}
 use Rattle.answers.specs.declared.Tallied.{Tallied}
 use Rattle.answers.specs.Tallied.{number_of, value_of}
 use Rattle.tally.specs.Tally.{tally_of, sums_of, move_by, buffer_of}
@@ -40,4 +40,4 @@ pub record SummerAnswer (book profile answer : List ℕ) : Type 0 where
   pub built : Built
   pub tables : Five
   pub kept : Promise book lent_tables tables built
-  pub lines : answer ≡ answer_lines (builtNumber built) (builtValue built) (total_lines tables (builtValue built) profile)
+  pub lines : answer ≡ answer_lines (built_number built) (built_value built) (total_lines tables (built_value built) profile)

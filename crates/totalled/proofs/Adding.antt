@@ -79,7 +79,7 @@ module _ (w : AddCall) where
   whole = whole_in w.old + counts w.profile
 
   answers : {a : Totalled} → (comes_to w).answer ≡ a → AddAnswers w (number_of a) (value_of a)
-  answers e = record { number_is = rw e; value-is = rw e }
+  answers e = record { number_is = rw e; value_is = rw e }
 
   -- ---- before the lines
 
@@ -140,8 +140,8 @@ module _ (w : AddCall) where
   left_is : AddAnswers w 0 0 → record_left w ≡ with_parts w.old adds_at
   left_is a = altered (comes_to w).answer w.old adds_at a.number_is
 
-  totals_are_lem : AddAnswers w 0 0 → (p : ℕ) → p < all_places → total_at (record_left w) p ≡ total_at w.old p + counts_of w.tables w.n p w.profile
-  totals_are_lem a p h =
+  totals_are : AddAnswers w 0 0 → (p : ℕ) → p < all_places → total_at (record_left w) p ≡ total_at w.old p + counts_of w.tables w.n p w.profile
+  totals_are a p h =
       ap (λ (t : LeafTotals). total_at t p) (left_is a) ∙ joined_at w.old adds_at p h
       ∙ ap (λ (k : ℕ). total_at w.old p + k) (adds_are w.tables w.n p w.profile (taken a).passes)
 
@@ -163,7 +163,7 @@ add_refuses w = record {
   past = λ x s h l. through w x s (none_fails w x h) (lt-ltb limit (whole w) l);
   accepted = λ x s h l. through w x s (none_fails w x h) (le-ltb limit (whole w) l);
   unaltered = unaltered (comes_to w).answer w.old (adds_at w);
-  totals = totals_are_lem w;
+  totals = totals_are w;
   profiles = profiles_are w;
 }
 
@@ -179,7 +179,7 @@ runs_add_up _ _ (next {ss} {t} s r a) =
     let so = runs_add_up ss t r in
     record {
       whole = whole_left (call_of s t) a ∙ omega (arith, so.whole);
-      each = λ p h. totals_are_lem (call_of s t) a p h ∙ omega (arith, so.each p h);
+      each = λ p h. totals_are (call_of s t) a p h ∙ omega (arith, so.each p h);
       profiles = profiles_are (call_of s t) a ∙ omega (arith, so.profiles);
       few = omega (arith, (taken (call_of s t) a).few, so.profiles);
     }

@@ -21,7 +21,7 @@ use Rattle.book.specs.Limits.{most_rules, most_bytes}
 use Rattle.book.specs.Meant.{rules_of}
 use Rattle.format.specs.Format.{means, meaning_of, fields, follow, ended, field_at, field_of, head_at, rule_field, outcome, judge_rule, judge_symbol, first_of, judge_symbols}
 use Rattle.lent.specs.Lent.{lent}
-use Rattle.promised.specs.Promise.{number_of as numberBuilt, value_of as valueBuilt, Promise}
+use Rattle.promised.specs.Promise.{number_of as number_built, value_of as value_built, Promise}
 use Rattle.promised.specs.declared.Built.{Built}
 use Rattle.promised.proofs.AsBefore.{of_sound}
 use Rattle.lines.specs.declared.Line.TheVariants.{Broken}
@@ -44,7 +44,7 @@ use Rattle.totalled.proofs.Computed.{fits_all, family_in, Filed, filed, filed_at
 use Rattle.totalled.proofs.Rounded.{AtEnds, whole_is}
 use Rattle.totalled.proofs.Shared.{SharesAre, shares_41, shares_9, shares_50, shares_limit, shares_1, shares_0}
 use Rattle.totalled.proofs.OneRow.{lost_at_0, lost_at_3, not_met, empty_named, one_byte, many-bytes}
-use Rattle.totalled.proofs.Four.{totals_are, FourOf, four-first, at_ends, four_shares}
+use Rattle.totalled.proofs.Four.{totals_are_lem, FourOf, four-first, at_ends, four_shares}
 
 -- ---- the book
 
@@ -55,7 +55,7 @@ four_meant : meaning_of four_rules ≡ means four
 unfolding meaning_of fields follow ended field_at field_of head_at rule_field outcome judge_rule judge_symbols judge_symbol first_of symbols_of
 four_meant = refl
 
-four-tables : (found b : Five) (x : Built) → Promise four_rules found b x → numberBuilt x ≡ 0 → Tables (rules_of four) b (valueBuilt x) × (valueBuilt x ≤ lent b)
+four-tables : (found b : Five) (x : Built) → Promise four_rules found b x → number_built x ≡ 0 → Tables (rules_of four) b (value_built x) × (value_built x ≤ lent b)
 four-tables found b x p z = built (of_sound four four_meant p) z
 
 four-few : count (rules_of four) ≤ most_rules
@@ -92,7 +92,7 @@ is_within profile old = leb (whole_in old + counts profile) limit
 -- where the counts go, and the totals that they make
 record Goes (profile : List ℕ) (old : LeafTotals) (fs : List Filed) (a b c d rest : ℕ) : Type 0 where
   files : filed (rules_of four) profile ≡ fs
-  totals : T (below 257 (λ p. eqb (total_at old p + filed_at p fs) (totals_are a b c d rest p)))
+  totals : T (below 257 (λ p. eqb (total_at old p + filed_at p fs) (totals_are_lem a b c d rest p)))
   most : leb (a + b + c + d + rest) limit ≡ true
 
 -- ---- a call over the book's tables
@@ -113,8 +113,8 @@ module _ {profile : List ℕ} {old : LeafTotals} (x : Fit profile old) {g : Five
   accepted within = (add_refuses call).accepted begun x.sound (none_fails call tables lends four-few x.bytes) (leb-true (whole_in old + counts profile) limit within)
 
   module _ (within : is_within profile old ≡ true) {fs : List Filed} {a b c d rest : ℕ} (y : Goes profile old fs a b c d rest) where
-    sum_at : (p : ℕ) → p < 257 → total_at old p + filed_at p fs ≡ totals_are a b c d rest p
-    sum_at p l = eqb→eq _ _ (below_at 257 (λ p. eqb (total_at old p + filed_at p fs) (totals_are a b c d rest p)) y.totals p l)
+    sum_at : (p : ℕ) → p < 257 → total_at old p + filed_at p fs ≡ totals_are_lem a b c d rest p
+    sum_at p l = eqb→eq _ _ (below_at 257 (λ p. eqb (total_at old p + filed_at p fs) (totals_are_lem a b c d rest p)) y.totals p l)
 
     left : FourOf (record_left call) a b c d rest
     left = record { at = λ p l. (add_refuses call).totals (accepted within) p l ∙ rw (counts-filed tables lends four-few profile x.bytes p, y.files) (sum_at p l) }
@@ -125,12 +125,12 @@ module _ {profile : List ℕ} {old : LeafTotals} (x : Fit profile old) {g : Five
         let q = shares (totals_in (record_left call)) (at_ends left) in
         record {
           answers = accepted within;
-          totals_are_lem = four-first left;
+          totals_are = four-first left;
           unnamed_is = left.at 256 (omega arith);
           profiles_are = (add_refuses call).profiles (accepted within);
           given = (demands (totals_in (record_left call))).given (omega (arith, whole_is (at_ends left), leb-true (a + b + c + d + rest) limit y.most));
           shares_are = four_shares left q;
-          rest-is = q.last;
+          rest_is = q.last;
         }
 
 -- ---- the cases
@@ -163,7 +163,7 @@ unsharing : (t : LeafTotals) → ltb limit (whole_in t) ≡ true → LeafHolds (
 unsharing t over =
     let l = ltb-true limit (whole_in t) over in
     let (number, value) = (demands (totals_in t)).past l in
-    record { number_is = number; value-is = value; none = (demands (totals_in t)).past-none l }
+    record { number_is = number; value_is = value; none = (demands (totals_in t)).past_none l }
 
 longer : LeafHolds (long 1048577 11 1048576)
 longer b n profile old e room =

@@ -95,13 +95,13 @@ module _ (r : Rules) where
     unfoldable pub family_in : ℕ
     family_in = get_or (those fits_rule 0 most_rules) 0 unnamed
 
-    first-is : LowestFrom fits_rule 0 most_rules family_in
+    first_is : LowestFrom fits_rule 0 most_rules family_in
     unfolding family_in
-    first-is = first-those fits_rule 0 most_rules most_rules (omega arith)
+    first_is = first-those fits_rule 0 most_rules most_rules (omega arith)
 
     family_in_lem : count r ≤ most_rules → IsFamily r leaf family_in
     family_in_lem few =
-        is_family few first-is.within (λ l. rule_fits family_in (first-is.passes l)) (λ k l x. true≢false (sym (fits-rule k x) ∙ first-is.before k (omega arith) l))
+        is_family few first_is.within (λ l. rule_fits family_in (first_is.passes l)) (λ k l x. true≢false (sym (fits-rule k x) ∙ first_is.before k (omega arith) l))
 
 -- ---- what a profile adds
 

@@ -9,22 +9,22 @@ use lib.ListN.{get_or, get_or-eq_default}
 use borrow.Author.Tests.{lt-ltb}
 use Rattle.shares.specs.Shares.{all_places, amount_at}
 use Rattle.shares.specs.Demands.{share}
-use Rattle.book.proofs.Tables.{get_or-table}
+use Rattle.book.proofs.Tables.{get_or_table}
 use Rattle.leaf_totals.specs.declared.LeafTotals.{LeafTotals}
 use Rattle.leaf_totals.specs.Record.{total_at, totals_in}
 use Rattle.totalled.proofs.Rounded.{AtEnds, none_between}
 use Rattle.totalled.proofs.Shared.{SharesAre}
 
 -- what it has at place p
-abbrev pub totals_are : ℕ → ℕ → ℕ → ℕ → ℕ → ℕ → ℕ
-totals_are a b c d rest p = cond (ltb p 256) (get_or (a ∷ b ∷ c ∷ d ∷ []) p 0) rest
+abbrev pub totals_are_lem : ℕ → ℕ → ℕ → ℕ → ℕ → ℕ → ℕ
+totals_are_lem a b c d rest p = cond (ltb p 256) (get_or (a ∷ b ∷ c ∷ d ∷ []) p 0) rest
 
 pub record FourOf (t : LeafTotals) (a b c d rest : ℕ) : Type 0 where
-  pub at : (p : ℕ) → p < 257 → total_at t p ≡ totals_are a b c d rest p
+  pub at : (p : ℕ) → p < 257 → total_at t p ≡ totals_are_lem a b c d rest p
 
 module _ {t : LeafTotals} {a b c d rest : ℕ} (x : FourOf t a b c d rest) where
-  amount : (p : ℕ) → p < 257 → amount_at (totals_in t) p ≡ totals_are a b c d rest p
-  amount p l = get_or-table all_places (total_at t) p 0 l ∙ x.at p l
+  amount : (p : ℕ) → p < 257 → amount_at (totals_in t) p ≡ totals_are_lem a b c d rest p
+  amount p l = get_or_table all_places (total_at t) p 0 l ∙ x.at p l
 
   pub four-first : (p : ℕ) → p < 256 → get_or t.totals p 0 ≡ get_or (a ∷ b ∷ c ∷ d ∷ []) p 0
   four-first p l = rw (lt-ltb p 256 l) at (x.at p (omega arith))

@@ -61,16 +61,16 @@ lost_at_3 = losing (one_row 65535 0 0) b_xa_1 (omega arith) (omega arith) (one-s
 
 pub not_met : LeafHolds (credits (one_row 65535 0 0) a_b_1 0 1)
 unfolding split last_from number_from count_of line_of line_check check_of pass_over sum_over sum_below table start_of look_at move_in move_from has those set_of row_set rules_at end_from end_of lowest_of family_at stack_leaf line_leaf leaf_pass leaves_pass line_adds profile_adds with_parts add_answer
-not_met = record { answers = record { number_is = refl; value-is = refl }; first-is = refl; unnamed_is = refl }
+not_met = record { answers = record { number_is = refl; value_is = refl }; first_is = refl; unnamed_is = refl }
 
 pub empty_named : LeafHolds (credits (one_row 0 0 1) empty_5 5 0)
 unfolding split last_from number_from count_of line_of line_check check_of pass_over sum_over sum_below table start_of look_at move_in move_from has those set_of row_set rules_at end_from end_of lowest_of family_at stack_leaf line_leaf leaf_pass leaves_pass line_adds profile_adds with_parts add_answer
-empty_named = record { answers = record { number_is = refl; value-is = refl }; first-is = refl; unnamed_is = refl }
+empty_named = record { answers = record { number_is = refl; value_is = refl }; first_is = refl; unnamed_is = refl }
 
 pub one_byte : LeafHolds (credits (one_row 0 1 1) b_1 1 0)
 unfolding split last_from number_from count_of line_of line_check check_of pass_over sum_over sum_below table start_of look_at move_in move_from has those set_of row_set rules_at end_from end_of lowest_of family_at stack_leaf line_leaf leaf_pass leaves_pass line_adds profile_adds with_parts add_answer
-one_byte = record { answers = record { number_is = refl; value-is = refl }; first-is = refl; unnamed_is = refl }
+one_byte = record { answers = record { number_is = refl; value_is = refl }; first_is = refl; unnamed_is = refl }
 
 pub many-bytes : LeafHolds (credits (one_row 0 1 1) b257_1 0 1)
 unfolding split last_from number_from count_of line_of line_check check_of pass_over sum_over sum_below table start_of look_at move_in move_from has those set_of row_set rules_at end_from end_of lowest_of family_at stack_leaf line_leaf leaf_pass leaves_pass line_adds profile_adds with_parts add_answer
-many-bytes = record { answers = record { number_is = refl; value-is = refl }; first-is = refl; unnamed_is = refl }
+many-bytes = record { answers = record { number_is = refl; value_is = refl }; first_is = refl; unnamed_is = refl }

@@ -13,7 +13,7 @@ use Rattle.shares.specs.Below.{sum_below}
 use Rattle.book.specs.Content.{table}
 use Rattle.shares.specs.Shares.{all_places}
 use Rattle.shares.proofs.Below.{sum_next, sum_same, sum_plus, zeros-below}
-use Rattle.book.proofs.Tables.{get_or-table}
+use Rattle.book.proofs.Tables.{get_or_table}
 use Rattle.shares.proofs.Tables.{total_table}
 use Rattle.leaf_totals.specs.declared.LeafTotals.{LeafTotals}
 use Rattle.leaf.specs.Leaf.{unnamed}
@@ -37,7 +37,7 @@ module _ (t : LeafTotals) (part : ℕ → ℕ) where
   joined_at p h = elim (dec_lt p unnamed) [
     | yes l ↦
         ap (λ (b : Bool). cond b (get_or (table most_rules (λ k. total_at t k + part k)) p 0) (total_at t unnamed + part unnamed)) (lt-ltb p unnamed l)
-        ∙ get_or-table most_rules (λ k. total_at t k + part k) p 0 l
+        ∙ get_or_table most_rules (λ k. total_at t k + part k) p 0 l
     | no l ↦
         let e : p ≡ unnamed = omega arith in
         ap (λ (b : Bool). cond b (get_or (table most_rules (λ k. total_at t k + part k)) p 0) (total_at t unnamed + part unnamed)) (le-ltb p unnamed (omega arith))

@@ -6,7 +6,7 @@ use Rattle.book.specs.Limits.{most_rules, most_bytes}
 use Rattle.lent.specs.Lent.{lent}
 use Rattle.one_byte.specs.Move.{move_of}
 use Rattle.answers.specs.declared.Walked.{Walked}
-use Rattle.answers.specs.Walked.{number_of as numberOfWalk, value_of as valueOfWalk}
+use Rattle.answers.specs.Walked.{number_of as number_of_walk, value_of as value_of_walk}
 use Rattle.walk.specs.Walk.{walk_of}
 use Rattle.lines.specs.Lines.{lines_of}
 use Rattle.lines.specs.Written.{start_of}
@@ -39,7 +39,7 @@ record_left w = (comes_to w).back
 -- it answers with this number and this value
 pub record AddAnswers (w : AddCall) (number value : ℕ) : Type 0 where
   pub number_is : number_of (comes_to w).answer ≡ number
-  pub value-is : value_of (comes_to w).answer ≡ value
+  pub value_is : value_of (comes_to w).answer ≡ value
 
 -- ---- leaves
 
@@ -61,13 +61,13 @@ leaf_walk w i = walk_of w.tables w.n (leaf_in (line_at w i)) 0
 -- line i is the first whose leaf's walk is refused with 13, at the leaf's byte x
 pub record FirstFails (w : AddCall) (i x : ℕ) : Type 0 where
   pub line : i < length (lines_of w.profile)
-  pub fails : numberOfWalk (leaf_walk w i) ≡ 13
-  pub byte : valueOfWalk (leaf_walk w i) ≡ x
-  pub before : (k : ℕ) → k < i → numberOfWalk (leaf_walk w k) ≢ 13
+  pub fails : number_of_walk (leaf_walk w i) ≡ 13
+  pub byte : value_of_walk (leaf_walk w i) ≡ x
+  pub before : (k : ℕ) → k < i → number_of_walk (leaf_walk w k) ≢ 13
 
 -- no walk over a leaf is refused with 13
 abbrev pub NoneFails : AddCall → Type 0
-NoneFails w = (i : ℕ) → i < length (lines_of w.profile) → numberOfWalk (leaf_walk w i) ≢ 13
+NoneFails w = (i : ℕ) → i < length (lines_of w.profile) → number_of_walk (leaf_walk w i) ≢ 13
 
 -- the family of a leaf over tables, or `unnamed`
 abbrev pub family_over : Five → ℕ → List ℕ → ℕ

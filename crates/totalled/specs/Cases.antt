@@ -2,9 +2,9 @@
 use Rattle.std.specs.Prelude.{List, [], ◌∷◌, ◌++◌, ◌≢◌, ◌≡◌, ℕ, ◌≤◌, ◌<◌, length, get_or, replicate}
 use Rattle.meaning.specs.Tables.{Five}
 use Rattle.lent.specs.Lent.{five, lent}
-use Rattle.promised.specs.Promise.{number_of as numberBuilt, value_of as valueBuilt, Promise}
+use Rattle.promised.specs.Promise.{number_of as number_built, value_of as value_built, Promise}
 use Rattle.promised.specs.declared.Built.{Built}
-use Rattle.shares.specs.Shares.{number_of as numberShared, value_of as valueShared}
+use Rattle.shares.specs.Shares.{number_of as number_shared, value_of as value_shared}
 use Rattle.leaf_totals.specs.declared.LeafTotals.{LeafTotals}
 use Rattle.leaf_totals.specs.Record.{empty_totals}
 use Rattle.leaves.specs.Totals.{shares_in}
@@ -145,12 +145,12 @@ leaf_cases =
 -- the call is accepted, and the record after it and the shares of that are these; totals and shares that are not listed are 0
 pub record AddedSo (w : AddCall) (totals : List ℕ) (unnamed profiles : ℕ) (shares : List ℕ) (rest : ℕ) : Type 0 where
   pub answers : AddAnswers w 0 0
-  pub totals_are_lem : (p : ℕ) → p < 256 → get_or (record_left w).totals p 0 ≡ get_or totals p 0
+  pub totals_are : (p : ℕ) → p < 256 → get_or (record_left w).totals p 0 ≡ get_or totals p 0
   pub unnamed_is : (record_left w).unnamed ≡ unnamed
   pub profiles_are : (record_left w).profiles ≡ profiles
-  pub given : (numberShared (shares_in (record_left w)).answer ≡ 0) × (valueShared (shares_in (record_left w)).answer ≡ 0)
+  pub given : (number_shared (shares_in (record_left w)).answer ≡ 0) × (value_shared (shares_in (record_left w)).answer ≡ 0)
   pub shares_are : (p : ℕ) → p < 256 → get_or (shares_in (record_left w)).parts p 0 ≡ get_or shares p 0
-  pub rest-is : get_or (shares_in (record_left w)).parts 256 0 ≡ rest
+  pub rest_is : get_or (shares_in (record_left w)).parts 256 0 ≡ rest
 
 -- it is refused so, and the record is as it was
 pub record RefusedSo (w : AddCall) (number value : ℕ) : Type 0 where
@@ -159,22 +159,22 @@ pub record RefusedSo (w : AddCall) (number value : ℕ) : Type 0 where
 
 -- the shares of the record are not given, with this number and this value, and all are 0
 pub record UnsharedSo (t : LeafTotals) (number value : ℕ) : Type 0 where
-  pub number_is : numberShared (shares_in t).answer ≡ number
-  pub value-is : valueShared (shares_in t).answer ≡ value
+  pub number_is : number_shared (shares_in t).answer ≡ number
+  pub value_is : value_shared (shares_in t).answer ≡ value
   pub none : (p : ℕ) → get_or (shares_in t).parts p 0 ≡ 0
 
 -- it is accepted, and these are the first total and unnamed after it
 pub record CreditedSo (w : AddCall) (first unnamed : ℕ) : Type 0 where
   pub answers : AddAnswers w 0 0
-  pub first-is : get_or (record_left w).totals 0 0 ≡ first
+  pub first_is : get_or (record_left w).totals 0 0 ≡ first
   pub unnamed_is : (record_left w).unnamed ≡ unnamed
 
 -- The book's tables: whatever buffers a build of it left which gave 0, with the value that it gave. Any tables: with some rows that are lent.
 abbrev pub LeafHolds : LeafCase → Type 0
-LeafHolds (adds profile old totals unnamed profiles shares rest) = (found b : Five) (x : Built) → Promise four_rules found b x → numberBuilt x ≡ 0
-    → AddedSo (record { tables = b; n = valueBuilt x; profile = profile; old = old }) totals unnamed profiles shares rest
-LeafHolds (refuses profile old number value) = (found b : Five) (x : Built) → Promise four_rules found b x → numberBuilt x ≡ 0
-    → RefusedSo (record { tables = b; n = valueBuilt x; profile = profile; old = old }) number value
+LeafHolds (adds profile old totals unnamed profiles shares rest) = (found b : Five) (x : Built) → Promise four_rules found b x → number_built x ≡ 0
+    → AddedSo (record { tables = b; n = value_built x; profile = profile; old = old }) totals unnamed profiles shares rest
+LeafHolds (refuses profile old number value) = (found b : Five) (x : Built) → Promise four_rules found b x → number_built x ≡ 0
+    → RefusedSo (record { tables = b; n = value_built x; profile = profile; old = old }) number value
 LeafHolds (breaks profile number value) = (b : Five) (n : ℕ) (old : LeafTotals) → n ≢ 0 → n ≤ lent b → old.profiles < 1024
     → RefusedSo (record { tables = b; n = n; profile = profile; old = old }) number value
 LeafHolds (full profiles number value) = (b : Five) (n : ℕ) (profile : List ℕ) (old : LeafTotals) → old.profiles ≡ profiles

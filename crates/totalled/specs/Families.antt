@@ -9,7 +9,7 @@ use Rattle.book.specs.Content.{Content}
 use Rattle.book.specs.Meant.{rules_of}
 use Rattle.format.specs.Format.{means, meaning_of}
 use Rattle.lent.specs.Lent.{lent}
-use Rattle.promised.specs.Promise.{number_of as numberBuilt, value_of as valueBuilt, Promise}
+use Rattle.promised.specs.Promise.{number_of as number_built, value_of as value_built, Promise}
 use Rattle.promised.specs.declared.Built.{Built}
 use Rattle.lines.specs.Lines.{lines_of}
 use Rattle.lines.specs.Profile.{AllSound, counts}
@@ -51,5 +51,5 @@ pub record Named (bytes : List ℕ) (b : Five) (n : ℕ) (profile : List ℕ) (t
 
 -- Any buffers that a build of the bytes left which gave 0, with the value that it gave.
 abbrev pub Names : Type 0
-Names = (bytes : List ℕ) → ByteText bytes → (old b : Five) (x : Built) → Promise bytes old b x → numberBuilt x ≡ 0 → (profile : List ℕ) → ByteText profile
-    → (t : LeafTotals) → Named bytes b (valueBuilt x) profile t
+Names = (bytes : List ℕ) → ByteText bytes → (old b : Five) (x : Built) → Promise bytes old b x → number_built x ≡ 0 → (profile : List ℕ) → ByteText profile
+    → (t : LeafTotals) → Named bytes b (value_built x) profile t

@@ -123,7 +123,7 @@ fn write(
     reports: &mut [u32],
 )
     requires walkable { Walkable goto.now fall.now out.now n text.now }
-    requires text_len { (length (reports_of goto.now fall.now out.now n text.now) ≡ places) × (places ≤ length reports.old) }
+    requires room { (length (reports_of goto.now fall.now out.now n text.now) ≡ places) × (places ≤ length reports.old) }
     ensures { reports.new ≡ written (reports_of goto.now fall.now out.now n text.now) reports.old }
 {
     let mut row = 0;

@@ -15,8 +15,8 @@ not_short p q = absurd (let z : ◌≡◌ {A = ℕ} 0 1 = cc in omega arith)
 pub judged : LiveFirst
 judged a b live out = record {
   done = (room, λ (x, y). rw (le-ltb (live / row_words) a x, le-ltb (out / row_words) b y));
-  live-short = no_live;
-  out-short = no_out;
+  live_short = no_live;
+  out_short = no_out;
 }
   where
     no_live : live / row_words < a → widen_of a b live out ≡ Short a

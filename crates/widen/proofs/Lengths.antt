@@ -6,14 +6,14 @@ use Rattle.widen.specs.Lengths.{WidenedLengths, WidenedBuffers}
 
 pub widened_lengths : WidenedLengths
 widened_lengths = record {
-  room = record { number_is = refl; value-is = refl };
-  more_room = record { number_is = refl; value-is = refl };
-  no_row = record { number_is = refl; value-is = refl };
-  live-short = record { number_is = refl; value-is = refl };
-  out-short = record { number_is = refl; value-is = refl };
-  both-short = record { number_is = refl; value-is = refl };
-  most = record { number_is = refl; value-is = refl };
-  most-short = record { number_is = refl; value-is = refl };
+  room = record { number_is = refl; value_is = refl };
+  more_room = record { number_is = refl; value_is = refl };
+  no_row = record { number_is = refl; value_is = refl };
+  live_short = record { number_is = refl; value_is = refl };
+  out_short = record { number_is = refl; value_is = refl };
+  both_short = record { number_is = refl; value_is = refl };
+  most = record { number_is = refl; value_is = refl };
+  most_short = record { number_is = refl; value_is = refl };
 }
 
 pub widened_buffers : WidenedBuffers

@@ -5,18 +5,18 @@ use Rattle.widen.specs.Widen.{widen_of, buffer_of, number_of, value_of}
 -- a widening from and to buffers of these lengths has this number and this value
 pub record Widens (old_live old_out live out number value : ℕ) : Type 0 where
   pub number_is : number_of (widen_of old_live old_out live out) ≡ number
-  pub value-is : value_of (widen_of old_live old_out live out) ≡ value
+  pub value_is : value_of (widen_of old_live old_out live out) ≡ value
 
 pub record WidenedLengths : Type 0 where
   pub room : Widens 2 3 8 12 0 0
   pub more_room : Widens 2 3 11 15 0 0
   pub no_row : Widens 0 0 0 0 0 0
-  pub live-short : Widens 2 3 7 12 33 2
-  pub out-short : Widens 2 3 8 11 33 3
+  pub live_short : Widens 2 3 7 12 33 2
+  pub out_short : Widens 2 3 8 11 33 3
   -- live first
-  pub both-short : Widens 2 3 7 11 33 2
+  pub both_short : Widens 2 3 7 11 33 2
   pub most : Widens 4096 4096 16384 16384 0 0
-  pub most-short : Widens 4096 4096 16384 16383 33 4096
+  pub most_short : Widens 4096 4096 16384 16383 33 4096
 
 -- the old numbers 5 and 6, put into buffers of sevens
 pub record WidenedBuffers : Type 0 where

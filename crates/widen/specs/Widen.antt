@@ -20,8 +20,8 @@ widen_of old_live old_out live out = cond (ltb (live / row_words) old_live) (Sho
 -- done exactly where each new buffer has room for its old one, and else refused with the old length of the first that has none
 pub record Judged (old_live old_out live out : ℕ) : Type 0 where
   pub done : (widen_of old_live old_out live out ≡ Done) ↔ ((old_live ≤ live / row_words) × (old_out ≤ out / row_words))
-  pub live-short : live / row_words < old_live → widen_of old_live old_out live out ≡ Short old_live
-  pub out-short : old_live ≤ live / row_words → out / row_words < old_out → widen_of old_live old_out live out ≡ Short old_out
+  pub live_short : live / row_words < old_live → widen_of old_live old_out live out ≡ Short old_live
+  pub out_short : old_live ≤ live / row_words → out / row_words < old_out → widen_of old_live old_out live out ≡ Short old_out
 
 abbrev pub LiveFirst : Type 0
 LiveFirst = (old_live old_out live out : ℕ) → Judged old_live old_out live out

@@ -12,16 +12,16 @@ use Rattle.widened.proofs.Laws.{words-widened}
 use Rattle.widened.proofs.OneWord.{tables-equal}
 
 words : (b : Five) (live out : ℕ) → OfWords b → OfWords (wide b live out)
-words b live out w = record { live-words = words-widened live b.live w.live-words; out-words = words-widened out b.out w.out-words }
+words b live out w = record { live_words = words-widened live b.live w.live_words; out_words = words-widened out b.out w.out_words }
 
 alike : (b b' : Five) (live out : ℕ) → AsLong (wide b live out) b' → OfWords b → OfWords b' → Alike (wide b live out) b'
 alike b b' live out k w w' = let v = words b live out w in record {
   goto = sym k.goto_long;
-  fall = sym k.fall-long;
-  held = sym k.held-long;
-  live = sym k.live-long;
-  out = sym k.out-long;
-  words = (v.live-words, w'.live-words, v.out-words, w'.out-words);
+  fall = sym k.fall_long;
+  held = sym k.held_long;
+  live = sym k.live_long;
+  out = sym k.out_long;
+  words = (v.live_words, w'.live_words, v.out_words, w'.out_words);
 }
 
 pub wide-same : WideSame

@@ -14,7 +14,7 @@ use Rattle.sets.specs.Table.{row_words, rules_at}
 use Rattle.sets.proofs.InWords.{Words}
 use Rattle.sets.proofs.Table.{rules-words}
 use Rattle.meaning.specs.Tables.{ZeroFrom}
-use Rattle.book.proofs.Tables.{length_table, get_or-table}
+use Rattle.book.proofs.Tables.{length_table, get_or_table}
 use Rattle.widen.specs.Widen.{widened_at, widened}
 use Rattle.widened.specs.OneWord.{SetsKept}
 
@@ -27,7 +27,7 @@ length-widened n old = length_table n (widened_at old)
 -- a place of the buffer, and a place past it
 place : (n : ℕ) (old : List ℕ) (i : ℕ) → i < n → get_or (widened n old) i 0 ≡ widened_at old i
 unfolding widened
-place n old i h = get_or-table n (widened_at old) i 0 h
+place n old i h = get_or_table n (widened_at old) i 0 h
 
 past : (n : ℕ) (old : List ℕ) (i : ℕ) → n ≤ i → get_or (widened n old) i 0 ≡ 0
 past n old i h = get_or-eq_default (widened n old) 0 (omega (arith, length-widened n old))

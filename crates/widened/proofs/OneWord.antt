@@ -40,10 +40,10 @@ tables_kept r b n live out x done =
       gotos = x.gotos;
       rest = record {
         goto_rest = x.rest.goto_rest;
-        fall-rest = x.rest.fall-rest;
-        held-rest = x.rest.held-rest;
-        live-rest = zero-widened live n b.live x.rest.live-rest;
-        out-rest = zero-widened out n b.out x.rest.out-rest;
+        fall_rest = x.rest.fall_rest;
+        held_rest = x.rest.held_rest;
+        live_rest = zero-widened live n b.live x.rest.live_rest;
+        out_rest = zero-widened out n b.out x.rest.out_rest;
       };
     }
 
@@ -88,20 +88,20 @@ module _ {r : Rules} {b b' : Five} {n n' : ℕ} (x : OneWord r b n) (y : Tables 
   row_kept : (i : ℕ) → i < length x.texts → SameRow b b' i
   row_kept i k = record {
     goto_same = λ c byte. one_entry (goes_on_at r x.texts i c) (x.gotos.entry i c k byte) (gotos'.entry i c k byte);
-    fall-same = one_row (congruence r) x.rows.ascending (fall_row (x.numbers.fall_is i k)) (fall_row (numbers'.fall_is i k));
+    fall_same = one_row (congruence r) x.rows.ascending (fall_row (x.numbers.fall_is i k)) (fall_row (numbers'.fall_is i k));
     held_same = x.numbers.held_is i k ∙ sym (numbers'.held_is i k);
     live_same = x.numbers.live_is i k ∙ sym (numbers'.live_is i k);
-    out-same = x.numbers.out_is i k ∙ sym (numbers'.out_is i k);
+    out_same = x.numbers.out_is i k ∙ sym (numbers'.out_is i k);
   }
 
   reports_kept : count r ≤ most_of_one → (i : ℕ) → i < length x.texts → members most_of_one (get_or b.out i 0) ≡ members most_rules (rules_at b'.out i)
   reports_kept few i k =
       members-more most_of_one (most_rules - most_of_one) (get_or b.out i 0) (rw (x.numbers.out_is i k) (out-small r _ few))
-      ∙ ap (members most_rules) (row_kept i k).out-same
+      ∙ ap (members most_rules) (row_kept i k).out_same
 
 pub rows_kept : RowsKept
 rows_kept r b b' n n' x y = record {
   count_same = sym x.count ∙ ap length (unique (congruence r) x.rows y.rows) ∙ y.count;
   row_same = λ i h. row_kept x y i (omega (arith, x.count));
-  reports-same = λ few i h. reports_kept x y few i (omega (arith, x.count));
+  reports_same = λ few i h. reports_kept x y few i (omega (arith, x.count));
 }

@@ -24,10 +24,10 @@ columns_of_one b = record { fall = λ i. get_or b.fall i 0; held = λ i. get_or 
 -- every entry past the last of n rows is 0
 pub record RestOfOne (n : ℕ) (b : Five) : Type 0 where
   pub goto_rest : ZeroFrom (256 * n) b.goto
-  pub fall-rest : ZeroFrom n b.fall
-  pub held-rest : ZeroFrom n b.held
-  pub live-rest : ZeroFrom n b.live
-  pub out-rest : ZeroFrom n b.out
+  pub fall_rest : ZeroFrom n b.fall
+  pub held_rest : ZeroFrom n b.held
+  pub live_rest : ZeroFrom n b.live
+  pub out_rest : ZeroFrom n b.out
 
 -- the buffers hold the tables of the rules r, with n rows: as `Tables`, with one word a row
 pub record OneWord (r : Rules) (b : Five) (n : ℕ) : Type 0 where
@@ -66,16 +66,16 @@ TablesKept = (r : Rules) (b : Five) (n live out : ℕ) → OneWord r b n → Roo
 -- row i is the same in old tables and in new ones
 pub record SameRow (b b' : Five) (i : ℕ) : Type 0 where
   pub goto_same : (c : ℕ) → c < 256 → goto_at b.goto i c ≡ goto_at b'.goto i c
-  pub fall-same : get_or b.fall i 0 ≡ get_or b'.fall i 0
+  pub fall_same : get_or b.fall i 0 ≡ get_or b'.fall i 0
   pub held_same : get_or b.held i 0 ≡ get_or b'.held i 0
   pub live_same : get_or b.live i 0 ≡ rules_at b'.live i
-  pub out-same : get_or b.out i 0 ≡ rules_at b'.out i
+  pub out_same : get_or b.out i 0 ≡ rules_at b'.out i
 
 -- so are the number of rows, each row, and the rules reported at it
 pub record Kept (r : Rules) (b : Five) (n : ℕ) (b' : Five) (n' : ℕ) : Type 0 where
   pub count_same : n ≡ n'
   pub row_same : (i : ℕ) → i < n → SameRow b b' i
-  pub reports-same : count r ≤ most_of_one → (i : ℕ) → i < n → members most_of_one (get_or b.out i 0) ≡ members most_rules (rules_at b'.out i)
+  pub reports_same : count r ≤ most_of_one → (i : ℕ) → i < n → members most_of_one (get_or b.out i 0) ≡ members most_rules (rules_at b'.out i)
 
 -- any old tables and any new tables of the same rules
 abbrev pub RowsKept : Type 0

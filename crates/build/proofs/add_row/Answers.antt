@@ -8,8 +8,8 @@ returns c =
     let room = c.requires.used in
     let e = c.ends-all.ensures in
     record {
-      fall-put = stored_number _ _ _ (omega (arith, room.fall-room));
-      held-put = stored_number _ _ _ (omega (arith, room.held-room));
-      live-put = stored_words _ _ _ (omega (arith, room.live-room)) c.requires.within.1 c.store.ensures;
-      out-put = rw (← e.0) (stored_words _ _ _ (omega (arith, room.out-room)) e.1 c.store-2.ensures);
+      fall_put = stored_number _ _ _ (omega (arith, room.fall_room));
+      held_put = stored_number _ _ _ (omega (arith, room.held_room));
+      live_put = stored_words _ _ _ (omega (arith, room.live_room)) c.requires.within.1 c.store.ensures;
+      out_put = rw (← e.0) (stored_words _ _ _ (omega (arith, room.out_room)) e.1 c.store-2.ensures);
     }

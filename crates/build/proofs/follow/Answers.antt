@@ -16,8 +16,8 @@ lower goto fall row c r d l h e = d.down r h (λ z. d.last c l (subst (λ (n : �
 pub loop-r-preserved : goal.loop-r-preserved
 loop-r-preserved c = (
   omega (arith, lower _ _ _ _ _ c.requires.descends c.requires.is_byte c.loop-r.invariant.0 c.loop-r-test.true),
-  λ e f. c.loop-r.invariant.1 e (record { falls-made = suc f.falls-made; way = falls c.loop-r-test.true f.way }),
+  λ e f. c.loop-r.invariant.1 e (record { falls_made = suc f.falls_made; way = falls c.loop-r-test.true f.way }),
 )
 
 pub returns : goal.returns
-returns c = c.loop-r.invariant.1 _ (record { falls-made = 0; way = goes c.loop-r-test.false })
+returns c = c.loop-r.invariant.1 _ (record { falls_made = 0; way = goes c.loop-r-test.false })

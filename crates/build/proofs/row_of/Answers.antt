@@ -16,4 +16,4 @@ returns-clause-course c = made (c.find_row-i.ensures.none c.if-i-n.false) c.if-l
 pub returns-clause-chains : goal.returns-clause-chains
 returns-clause-chains c = λ e m q.
     let put = c.add_row.ensures in
-    chains_placed q (chains_more c.requires.chains (chain_put put.fall-put put.live-put c.chain-g.ensures.0) c.chain-g.ensures.1 (omega (arith, c.requires.used.few)))
+    chains_placed q (chains_more c.requires.chains (chain_put put.fall_put put.live_put c.chain-g.ensures.0) c.chain-g.ensures.1 (omega (arith, c.requires.used.few)))

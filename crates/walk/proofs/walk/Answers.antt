@@ -4,8 +4,8 @@ use Rattle.std.proofs.lemmas.Grind.{common_steps}
 use Rattle.walk.proofs.Laws.{counted}
 use Rattle.walk.proofs.walk.Goals as goal
 
-pub write-requires-clause-text_len : goal.write-requires-clause-text_len
-write-requires-clause-text_len c =
+pub write-requires-clause-room : goal.write-requires-clause-room
+write-requires-clause-room c =
     let a = c.args in
     let some : 0 < a.n = grind (arith, common_steps) in
     let r = counted a.goto.now a.fall.now a.out.now a.n a.text.now some c.count.ensures c.in-Read.is in

@@ -19,7 +19,7 @@ module _ (goto fall out : List ℕ) (n : ℕ) (text : List ℕ) (at row : ℕ) (
 pub loop-to-init : goal.loop-to-init
 loop-to-init c =
     let a = c.args in
-    let p = c.requires.text_len in
+    let p = c.requires.room in
     (omega arith, refl, omega (arith, p), stored_all _ _ (omega (arith, p)), λ h. reports-some a.goto.now a.fall.now a.out.now a.n a.text.now 0 0 (omega (arith, p)))
 
 pub report-to-requires : goal.report-to-requires

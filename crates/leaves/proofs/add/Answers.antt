@@ -1,13 +1,19 @@
 -- Refusal by refusal, and then by what was counted.
-use Rattle.std.proofs.Common.{◌∙◌, refl}
+use Rattle.std.proofs.Common.{◌∙◌, refl, arith}
+use Rattle.lent.specs.Lent.{given}
 use Rattle.leaves.proofs.Answers.{add_full, add_long, add_rows, add_line, add_counted}
 use Rattle.leaves.proofs.add.Goals as goal
 
+-- what was tested first is read from what is known, not by its place
 pub returns-then-old-ge-PROFILES : goal.returns-then-old-ge-PROFILES
-returns-then-old-ge-PROFILES c = c.refused.ensures ∙ add_full _ _ _ _ c.if-old-ge-PROFILES.true
+returns-then-old-ge-PROFILES c =
+    let a = c.args in
+    cc (add_full (given a.goto.now a.fall.now a.held.now a.live.now a.out.now) a.n a.profile.now a.old (omega arith))
 
 pub returns-then-profile-gt-TEXT : goal.returns-then-profile-gt-TEXT
-returns-then-profile-gt-TEXT c = c.refused-then-profile-gt-TEXT.ensures ∙ add_long _ _ _ _ c.if-old-ge-PROFILES.false c.if-profile-gt-TEXT.true
+returns-then-profile-gt-TEXT c =
+    let a = c.args in
+    cc (add_long (given a.goto.now a.fall.now a.held.now a.live.now a.out.now) a.n a.profile.now a.old (omega arith) (omega arith))
 
 pub returns-then-not-has_rows : goal.returns-then-not-has_rows
 returns-then-not-has_rows c =

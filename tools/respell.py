@@ -8,9 +8,10 @@ Definitions and lemmas of specs/ and proofs/ alone: functions of src/, strings, 
 import glob
 import os
 import re
+import shutil
 import sys
 
-KIT = "/opt/rattle"
+KIT = os.path.dirname(os.path.dirname(os.path.realpath(shutil.which("rt") or "rt")))
 LETTER = r"A-Za-z_\u0370-\u03ff"
 WORD = rf"[{LETTER}][\w'\u2080-\u209c]*(?:-[\w'\u2080-\u209c]+)*"
 # Words that a lemma's name may have after a dash though nothing here is called so.

@@ -1,13 +1,13 @@
 -- When n rows are there and lent, and what it is to be lent. Assumes nothing.
 use mathlib.Core.Bool.{true, false, true≢false}
-use mathlib.Core.Logic.{◌⊎◌, inl, inr, ◌≢◌}
+use mathlib.Core.Logic.{◌≢◌}
 use mathlib.Core.Path.{◌≡◌, sym, ◌∙◌}
 use Prim.Native.Nat.{ℕ, ◌≤◌, ◌<◌}
 use native.Mathlib.Omega.{arith}
 use native.Mathlib.Decide.{dec_lt}
 use borrow.Author.Tests.{lt-leb, le-leb, eq-eqb, ne_eqb}
 use Rattle.meaning.specs.Tables.{Five}
-use Rattle.lent.specs.Lent.{lent, Lends, LentIs, has_rows}
+use Rattle.lent.specs.Lent.{lent, LentIs, has_rows}
 
 pub lent_is : LentIs
 lent_is b n = (
@@ -16,13 +16,6 @@ lent_is b n = (
 )
 
 module _ (b : Five) (n : ℕ) where
-  pub lends_or_not : Dec (Lends b n)
-  lends_or_not = elim (dec_lt (lent b) n) [ yes l ↦ no (λ x. omega (arith, l, (lent_is b n).1 x)) | no g ↦ yes ((lent_is b n).0 (omega arith)) ]
-
-  pub none_or_unlent : (n ≡ 0) ⊎ (¬ Lends b n) → (n ≡ 0) ⊎ (lent b < n)
-  none_or_unlent (inl q) = inl q
-  none_or_unlent (inr ne) = inr (elim (dec_lt (lent b) n) [ yes l ↦ l | no g ↦ absurd (ne ((lent_is b n).0 (omega arith))) ])
-
   pub rows-lent : n ≢ 0 → n ≤ lent b → has_rows b n ≡ true
   rows-lent ne h = rw (ne_eqb n 0 ne, le-leb n (lent b) h)
 

@@ -20,9 +20,6 @@ pub sets_past : (vs l : List ℕ) (i : ℕ) → length l ≤ i → sets l i vs �
 sets_past [] l i h = refl
 sets_past (v ∷ vs) l i h = ap (λ m. sets m (suc i) vs) (set_out l i v h) ∙ sets_past vs l (suc i) (omega arith)
 
-pub puts_none : {l : List ℕ} {at : ℕ} → Puts [] l at l at
-puts_none = record { filled = refl; behind = omega arith }
-
 pub puts_append : {xs ys l₀ l₁ l₂ : List ℕ} {at r₁ r₂ : ℕ} → Puts xs l₀ at l₁ r₁ → Puts ys l₁ r₁ l₂ r₂ → Puts (xs ++ ys) l₀ at l₂ r₂
 puts_append {xs} {ys} {l₀} {l₁} {l₂} {at} {r₁} {r₂} p q = record {
   filled = q.filled ∙ ap (λ l. sets l r₁ ys) p.filled ∙ elim (dec_lt (length l₀ - at) (length xs)) [ yes m ↦ full m | no m ↦ fits (omega arith) ];

@@ -1,5 +1,5 @@
 -- A list whose places are written one after another. Assumes nothing.
-use mathlib.Core.Path.{◌≡◌, refl, ◌∙◌}
+use mathlib.Core.Path.{◌≡◌, ◌∙◌}
 use mathlib.Core.List.{List}
 use Prim.Native.Nat.{ℕ, ◌+◌, ◌≤◌, ◌<◌}
 use native.Mathlib.Decide.{dec_lt}
@@ -13,9 +13,6 @@ pub record Writing (v : ℕ → ℕ) (xs : List ℕ) (b i : ℕ) (ys : List ℕ)
   pub done : (j : ℕ) → j < i → get_or ys (b + j) 0 ≡ v j
   pub before : (j : ℕ) → j < b → get_or ys j 0 ≡ get_or xs j 0
   pub after : (j : ℕ) → b + i ≤ j → get_or ys j 0 ≡ get_or xs j 0
-
-pub writing_start : {v : ℕ → ℕ} (xs : List ℕ) (b : ℕ) → Writing v xs b 0 xs
-writing_start xs b = record { long = refl; done = λ j h. absurd (omega arith); before = λ j h. refl; after = λ j h. refl }
 
 pub writing_next : {v : ℕ → ℕ} {xs ys : List ℕ} {b i x p : ℕ} → p ≡ b + i → p < length xs → x ≡ v i → Writing v xs b i ys → Writing v xs b (i + 1) (set ys p x)
 writing_next {v} {xs} {ys} {b} {i} {x} {p} at h e w = record {

@@ -9,7 +9,7 @@ use borrow.Author.Tests.{eq-eqb, ne_eqb}
 use lib.ListN.{length, get_or, drop, length-append, length-drop, drop_of_length-le}
 use lib.Seq.{drop-cons}
 use Rattle.output.specs.Printed.{Puts, pair_line}
-use Rattle.output.proofs.Laws.{puts_none, puts_append}
+use Rattle.output.proofs.Laws.{puts_append}
 use Rattle.output.proofs.Room.{numeral_32, numeral_64, pair_length}
 use Rattle.shown.specs.Shown.{report_lines, shown_lines, sum_line, sum_lines}
 
@@ -20,9 +20,6 @@ pub record Front (all rest before : List ℕ) (at : ℕ) (after : List ℕ) (r :
   pub done : List ℕ
   pub split : all ≡ done ++ rest
   pub puts : Puts done before at after r
-
-pub front_none : {all l : List ℕ} {at : ℕ} → Front all all l at l at
-front_none = record { done = []; split = refl; puts = puts_none }
 
 -- one line more
 pub front_next : {all line rest l₀ l₁ l₂ : List ℕ} {at r₁ r₂ : ℕ} → Front all (line ++ rest) l₀ at l₁ r₁ → Puts line l₁ r₁ l₂ r₂ → Front all rest l₀ at l₂ r₂

@@ -9,14 +9,17 @@ use Rattle.sets.proofs.Members.{members-cons, members-empty, first-lt, reports_s
 use Rattle.bits.proofs.write_members.Invariants.{due}
 use Rattle.bits.proofs.write_members.Goals as goal
 
+-- a turn takes the first of what is left
 taken : (s k r : ℕ) → 0 < s → s < 2 ^ 64 → k ≡ get_or (members 64 s) 0 64 → members 64 r ≡ drop 1 (members 64 s) → members 64 s ≡ k ∷ members 64 r
 taken s k r p h e f = members-cons 64 s p h ∙ ap₂ ◌∷◌ (sym e) (sym f)
 
+-- and there is room for it
 turn : (n to s k r : ℕ) → 2 ≤ n - to → members 64 s ≡ k ∷ members 64 r → due n to s ≡ k ∷ due n (to + 2) r
 turn n to s k r room e =
     let more : pairs_from n to ≡ suc (pairs_from n (to + 2)) = omega arith in
     ap₂ take more e
 
+-- what was stored up to there is what is to be there
 stored : (base end at to : ℕ) (ks out old : List ℕ) → to ≡ at + 2 * length ks → to ≤ length old → out ≡ sets old at (reports end (plus_each base ks)) → out ≡ replaced at to (reports end (plus_each base ks)) old
 stored base end at to ks out old e h q =
     let as_many : to ≡ at + 2 * length (plus_each base ks) = rw length-map e in

@@ -1,27 +1,35 @@
 -- By the head of the field: a part of the bytes is judged, and what is taken is what the field leads to.
 use Rattle.std.proofs.Common.{◌∙◌, refl, sym, subst, arith, rules}
-use lib.ListN.{length-take}
+use lib.ListN.{length, length-take}
 use Rattle.format.specs.Format.{part, field_of}
 use Rattle.reader.specs.Leaves.{Shows}
 use Rattle.format.specs.declared.Head.TheVariants.{Short, Unknown, Picture, Rule}
 use Rattle.format.proofs.Judged.{picture-sound, rule-sound}
-use Rattle.format.proofs.Fields.{head_within, field_headed}
+use Rattle.format.proofs.Fields.{Within, head_within, field_headed}
 use Rattle.reader.proofs.Steps.{picture-taken, picture_stopped, rule-taken, rule_stopped}
 use Rattle.reader.proofs.field.Goals as goal
+use Rattle.reader.proofs.field.Goals.{In-Picture, In-Rule}
+
+-- a picture's body, and a rule's, is a part of the bytes
+picture_there : (c : In-Picture) → Within (length c.args.bytes.now) c.args.at (Picture c.in-Picture.start c.in-Picture.end)
+picture_there c = head_within c.args.bytes.now c.args.at (Picture c.in-Picture.start c.in-Picture.end) c.in-Picture.ensures refl
+
+rule_there : (c : In-Rule) → Within (length c.args.bytes.now) c.args.at (Rule c.in-Rule.start c.in-Rule.end)
+rule_there c = head_within c.args.bytes.now c.args.at (Rule c.in-Rule.start c.in-Rule.end) c.in-Rule.ensures refl
 
 pub slice_bounds-take_picture-count : goal.slice_bounds-take_picture-count
 slice_bounds-take_picture-count c =
-    let w = head_within c.args.bytes.now c.args.at (Picture c.in-Picture.start c.in-Picture.end) c.in-Picture.ensures refl in
+    let w = picture_there (goal.at.slice_bounds-take_picture-count c).In-Picture in
     omega arith
 
 pub slice_bounds-take_picture-start : goal.slice_bounds-take_picture-start
 slice_bounds-take_picture-start c =
-    let w = head_within c.args.bytes.now c.args.at (Picture c.in-Picture.start c.in-Picture.end) c.in-Picture.ensures refl in
+    let w = picture_there (goal.at.slice_bounds-take_picture-start c).In-Picture in
     search rules
 
 pub slice_bounds-take_picture-end : goal.slice_bounds-take_picture-end
 slice_bounds-take_picture-end c =
-    let w = head_within c.args.bytes.now c.args.at (Picture c.in-Picture.start c.in-Picture.end) c.in-Picture.ensures refl in
+    let w = picture_there (goal.at.slice_bounds-take_picture-end c).In-Picture in
     search rules
 
 pub overflow_add-result : goal.overflow_add-result
@@ -31,22 +39,22 @@ overflow_add-result c =
 
 pub slice_bounds-take_rule-count : goal.slice_bounds-take_rule-count
 slice_bounds-take_rule-count c =
-    let w = head_within c.args.bytes.now c.args.at (Rule c.in-Rule.start c.in-Rule.end) c.in-Rule.ensures refl in
+    let w = rule_there (goal.at.slice_bounds-take_rule-count c).In-Rule in
     omega arith
 
 pub slice_bounds-take_rule-start : goal.slice_bounds-take_rule-start
 slice_bounds-take_rule-start c =
-    let w = head_within c.args.bytes.now c.args.at (Rule c.in-Rule.start c.in-Rule.end) c.in-Rule.ensures refl in
+    let w = rule_there (goal.at.slice_bounds-take_rule-start c).In-Rule in
     search rules
 
 pub slice_bounds-take_rule-end : goal.slice_bounds-take_rule-end
 slice_bounds-take_rule-end c =
-    let w = head_within c.args.bytes.now c.args.at (Rule c.in-Rule.start c.in-Rule.end) c.in-Rule.ensures refl in
+    let w = rule_there (goal.at.slice_bounds-take_rule-end c).In-Rule in
     search rules
 
 pub take_rule-requires : goal.take_rule-requires
 take_rule-requires c =
-    let w = head_within c.args.bytes.now c.args.at (Rule c.in-Rule.start c.in-Rule.end) c.in-Rule.ensures refl in
+    let w = rule_there (goal.at.take_rule-requires c).In-Rule in
     simp length-take (omega arith)
 
 pub overflow_add-result-in-Accepted-take_rule : goal.overflow_add-result-in-Accepted-take_rule

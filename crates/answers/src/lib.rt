@@ -1,72 +1,83 @@
-// The answers of a walk and of a tally, with the paper's numbers and values.
+// The answers of a walk and of a tally: what a walk tells, and the refusals with the paper's numbers and values.
 #![tactic(auto)]
 
 ghost use Rattle.std.specs.Prelude.{◌≡◌};
-ghost use Rattle.answers.specs.Walked.{number_of, value_of};
-ghost use Rattle.answers.specs.Tallied.{number_of as number_tallied, value_of as value_tallied};
+ghost use Rattle.answers.specs.declared.WalkRefusal.TheVariants.{Damaged as WalkDamaged};
+ghost use Rattle.answers.specs.declared.TallyRefusal.TheVariants.{BadLine as TallyBadLine, Damaged as TallyDamaged};
+ghost use Rattle.answers.specs.Walked.{refusal_number, refusal_value};
+ghost use Rattle.answers.specs.Tallied.{refusal_number as tally_number, refusal_value as tally_value};
 
 use book::Book;
+use lines::BadLine;
+use numbered::{Numbered, Worth};
 
-// The walk's answer. `number_of` and `values_of` of specs/ give each case's number and values.
+// What an accepted walk tells: its reports, its fallbacks and the held length of its last row.
 #[derive(Clone, Copy)]
-pub enum Walked {
-    Accepted {
-        reports: usize,
-        falls: u64,
-        held: u8,
-    },
+pub struct Walked {
+    pub reports: usize,
+    pub falls: u64,
+    pub held: u8,
+}
+
+// Of its three values the first.
+impl Worth for Walked {
+    ghost worth_is = { λ w. w.reports };
+
+    fn worth(&self) -> u64 {
+        self.reports as u64
+    }
+}
+
+// At this byte a look finds what no build writes.
+#[derive(Clone, Copy)]
+pub struct Damaged {
+    pub at: usize,
+}
+
+// Why a walk is refused.
+#[derive(Clone, Copy)]
+pub enum WalkRefusal {
     TooLong,
-    BadRows {
-        rows: usize,
-    },
-    Damaged {
-        at: usize,
-    },
-    NoRoom {
-        needed: usize,
-    },
+    BadRows { rows: usize },
+    Damaged { at: usize },
+    NoRoom { needed: usize },
 }
 
-impl Walked {
-    // The paper's number of an answer.
-    pub fn number(self) -> usize
-        ensures { result ≡ number_of self }
-    {
+impl From<Damaged> for WalkRefusal {
+    ghost from_gives = { λ d r. r ≡ WalkDamaged d.at };
+
+    fn from(damage: Damaged) -> WalkRefusal {
+        WalkRefusal::Damaged { at: damage.at }
+    }
+}
+
+impl Numbered for WalkRefusal {
+    ghost number_is = { refusal_number };
+
+    ghost value_is = { refusal_value };
+
+    fn number(&self) -> usize {
         match self {
-            Walked::Accepted {
-                reports: _,
-                falls: _,
-                held: _,
-            } => 0,
-            Walked::TooLong => 11,
-            Walked::BadRows { rows: _ } => 12,
-            Walked::Damaged { at: _ } => 13,
-            Walked::NoRoom { needed: _ } => 14,
+            WalkRefusal::TooLong => 11,
+            WalkRefusal::BadRows { rows: _ } => 12,
+            WalkRefusal::Damaged { at: _ } => 13,
+            WalkRefusal::NoRoom { needed: _ } => 14,
         }
     }
 
-    // Its value, or the first of the three of an accepted walk.
-    pub fn value(self) -> usize
-        ensures { result ≡ value_of self }
-    {
+    fn value(&self) -> u64 {
         match self {
-            Walked::Accepted {
-                reports,
-                falls: _,
-                held: _,
-            } => reports,
-            Walked::TooLong => Book::TEXT,
-            Walked::BadRows { rows } => rows,
-            Walked::Damaged { at } => at,
-            Walked::NoRoom { needed } => needed,
+            WalkRefusal::TooLong => Book::TEXT as u64,
+            WalkRefusal::BadRows { rows } => *rows as u64,
+            WalkRefusal::Damaged { at } => *at as u64,
+            WalkRefusal::NoRoom { needed } => *needed as u64,
         }
     }
 }
 
-// The tally's answer. `number_of` and `value_of` of specs/ give each case's number and value.
+// Why a tally is refused.
 #[derive(Clone, Copy)]
-pub enum Tallied {
-    Accepted,
+pub enum TallyRefusal {
     TooLong,
     BadRows { rows: usize },
     FewSums { places: usize },
@@ -74,32 +85,44 @@ pub enum Tallied {
     Damaged { at: usize },
 }
 
-impl Tallied {
-    // The paper's number of an answer.
-    pub fn number(self) -> usize
-        ensures { result ≡ number_tallied self }
-    {
+impl From<BadLine> for TallyRefusal {
+    ghost from_gives = { λ l r. r ≡ TallyBadLine l.at };
+
+    fn from(line: BadLine) -> TallyRefusal {
+        TallyRefusal::BadLine { at: line.at }
+    }
+}
+
+impl From<Damaged> for TallyRefusal {
+    ghost from_gives = { λ d r. r ≡ TallyDamaged d.at };
+
+    fn from(damage: Damaged) -> TallyRefusal {
+        TallyRefusal::Damaged { at: damage.at }
+    }
+}
+
+impl Numbered for TallyRefusal {
+    ghost number_is = { tally_number };
+
+    ghost value_is = { tally_value };
+
+    fn number(&self) -> usize {
         match self {
-            Tallied::Accepted => 0,
-            Tallied::TooLong => 11,
-            Tallied::BadRows { rows: _ } => 12,
-            Tallied::FewSums { places: _ } => 16,
-            Tallied::BadLine { at: _ } => 15,
-            Tallied::Damaged { at: _ } => 13,
+            TallyRefusal::TooLong => 11,
+            TallyRefusal::BadRows { rows: _ } => 12,
+            TallyRefusal::FewSums { places: _ } => 16,
+            TallyRefusal::BadLine { at: _ } => 15,
+            TallyRefusal::Damaged { at: _ } => 13,
         }
     }
 
-    // Its value.
-    pub fn value(self) -> usize
-        ensures { result ≡ value_tallied self }
-    {
+    fn value(&self) -> u64 {
         match self {
-            Tallied::Accepted => 0,
-            Tallied::TooLong => Book::TEXT,
-            Tallied::BadRows { rows } => rows,
-            Tallied::FewSums { places } => places,
-            Tallied::BadLine { at } => at,
-            Tallied::Damaged { at } => at,
+            TallyRefusal::TooLong => Book::TEXT as u64,
+            TallyRefusal::BadRows { rows } => *rows as u64,
+            TallyRefusal::FewSums { places } => *places as u64,
+            TallyRefusal::BadLine { at } => *at as u64,
+            TallyRefusal::Damaged { at } => *at as u64,
         }
     }
 }

@@ -2,7 +2,6 @@
 use Prim.Native.Nat.{ℕ, ◌≤◌, ◌<◌}
 use mathlib.Core.Path.{◌≡◌, refl}
 use mathlib.Core.Bool.{Bool, true, false}
-use native.Mathlib.Omega.{arith}
 use borrow.Author.Tests.{ltb-true, ltb-false, eqb-true, eqb-false}
 use lib.Dec.{eqb, ltb}
 
@@ -19,4 +18,4 @@ by_eq a b f g = by_test (eqb a b) (λ e. f (eqb-true a b e)) (λ e. g (eqb-false
 
 -- a test has one value
 pub clash : {A : Type 0} {t : Bool} → t ≡ true → t ≡ false → A
-clash x y = absurd (let z : ◌≡◌ {A = ℕ} 0 1 = cc in omega arith)
+clash x y = absurd (cc)

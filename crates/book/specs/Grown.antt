@@ -1,7 +1,8 @@
--- What a picture or a rule more makes of the arrays of a record. Assumes nothing.
+-- What a picture or a rule more makes of a record, and of its arrays. Assumes nothing.
 use Rattle.std.specs.Prelude.{ℕ, ◌+◌, ◌*◌, ◌/◌, Bool, ◌&&◌, cond, List, [], ◌∷◌, length, get_or, set, leb, ltb}
 use Rattle.std.proofs.lemmas.List.Edits.{sets}
 use Rattle.sets.specs.Sets.{adding}
+use Rattle.book.specs.declared.Book.{Book}
 use Rattle.book.specs.Limits.{most_pictures, most_rules, most_symbols}
 
 -- the map with p in the set of each byte of m; as it was where there is no picture p
@@ -26,3 +27,16 @@ symbols_with symbols n l = cond (has_room n l) (sets symbols (most_symbols * n) 
 -- the lengths with that of rule n, whose body is l; as they were where it has no room
 unfoldable pub lengths_with : List ℕ → ℕ → List ℕ → List ℕ
 lengths_with lengths n l = cond (has_room n l) (set lengths n (length l / 2)) lengths
+
+-- ---- the record
+
+-- the book with one picture more, whose bytes are m; as it was where it has no room
+unfoldable pub picture_more : Book → List ℕ → Book
+picture_more b m = cond (ltb b.pictures most_pictures) (record b { picture = mark b.pictures b.picture m; pictures = b.pictures + 1 }) b
+
+-- the book with one rule more, whose body is l; as it was where it has no room
+unfoldable pub rule_more : Book → List ℕ → Book
+rule_more b l =
+    cond (has_room b.rules l)
+    (record b { symbols = symbols_with b.symbols b.rules l; lengths = lengths_with b.lengths b.rules l; rules = b.rules + 1 })
+    b

@@ -1,15 +1,14 @@
 // The record of a rule book: its limits, the empty book, one picture and one rule more, and whether a byte fits a symbol.
 #![tactic(auto)]
 
-ghost use Rattle.std.specs.Prelude.{◌≡◌, ◌+◌, ◌*◌, ◌/◌, ◌<◌, ◌≤◌, length};
+ghost use Rattle.std.specs.Prelude.{◌≡◌, ◌+◌, ◌/◌, ◌<◌, ◌≤◌, length};
 ghost use Rattle.std.proofs.lemmas.List.Edits.{sets};
-ghost use Rattle.sets.specs.Sets.{has as is_in, adding};
 ghost use Rattle.book.specs.Limits.{most_pictures, most_rules, most_symbols, places, most_rows, most_bytes};
 ghost use Rattle.book.specs.Content.{nothing, record_of};
-ghost use Rattle.book.specs.Grown.{mark, symbols_of, symbols_with, lengths_with};
+ghost use Rattle.book.specs.Grown.{mark, symbols_of, picture_more, rule_more};
 ghost use Rattle.book.specs.Meant.{SaysWhetherFits};
 
-// The pictures with each byte value, as a set: picture p at bit p. Other crates lend the map and ask `fits`.
+// The pictures with each byte value, as a set: picture p at bit p.
 pub type Pictures = [u16; 256];
 
 // A rule book, once read. A symbol is 256 times its kind plus its second byte; rule k's symbol j is at SYMBOLS * k + j.
@@ -58,94 +57,65 @@ impl Book {
         }
     }
 
-    // The picture `p` in the set of each byte of `body`: the next picture, where the book has `p` of them. There is none past the limit.
-    pub fn add_picture(map: &mut Pictures, p: u8, body: &[u8])
-        ensures { map.new ≡ mark p map.old body.now }
+    // The next picture, whose bytes are those of `body`. There is none past the limit.
+    #[tactic(auto, unfolding(crate::specs::Grown::picture_more))]
+    pub fn add_picture(&mut self, body: &[u8])
+        ensures { self.new ≡ picture_more self.old body.now }
     {
-        let mut i: usize = 0;
-        while i < body.len() {
-            let c = wide(body[i]);
-            map[c] = with(map[c], p);
-            i += 1;
+        if Book::PICTURES <= self.pictures {
+            return;
         }
+        mark(&mut self.picture, self.pictures, body);
+        self.pictures += 1;
     }
 
-    // The rule `rules`, whose symbols are the pairs of `body`: the next, where the book has so many. A book's arrays are lent, so that
-    // none is copied; they stay where there is no room for the rule.
-    pub fn add_rule(
-        symbols: &mut [u16; Book::PLACES],
-        lengths: &mut [u8; Book::RULES],
-        rules: usize,
-        body: &[u8],
-    )
-        ensures symbols_grown { symbols.new ≡ symbols_with symbols.old rules body.now }
-        ensures lengths_grown { lengths.new ≡ lengths_with lengths.old rules body.now }
+    // The next rule, whose symbols are the pairs of `body`. There is none past the limit, and none with more symbols than a rule may have.
+    #[tactic(auto, unfolding(crate::specs::Grown::has_room, crate::specs::Grown::symbols_with, crate::specs::Grown::lengths_with, crate::specs::Grown::rule_more))]
+    pub fn add_rule(&mut self, body: &[u8])
+        ensures { self.new ≡ rule_more self.old body.now }
     {
-        if Book::RULES <= rules {
+        if Book::RULES <= self.rules {
             return;
         }
         if 2 * Book::SYMBOLS < body.len() {
             return;
         }
-        store(symbols, Book::SYMBOLS * rules, body);
-        lengths[rules] = (body.len() / 2) as u8;
+        store(&mut self.symbols, Book::SYMBOLS * self.rules, body);
+        self.lengths[self.rules] = (body.len() / 2) as u8;
+        self.rules += 1;
+    }
+
+    // Does the byte `c` fit the symbol?
+    #[tactic(auto, unfolding(meaning::specs::Rules::fits, crate::specs::Meant::rules_in, crate::specs::Meant::member_in))]
+    pub fn fits(&self, c: u8, symbol: u16) -> bool
+        ensures { SaysWhetherFits self.now.picture c symbol result }
+    {
+        if symbol < 256 {
+            return u16::from(c) == symbol;
+        }
+        let pictures = self.picture[usize::from(c)];
+        bits::has(u64::from(pictures), u32::from(symbol - 256))
     }
 }
 
-// ---- the picture map
-
-fn wide(x: u8) -> usize
-    ensures { (result ≡ x) × (result < 256) }
+// The picture `p` in the set of each byte of `body`.
+#[tactic(auto, using(crate::proofs::Stores::marks))]
+fn mark(map: &mut Pictures, p: u8, body: &[u8])
+    requires { p < most_pictures }
+    ensures { map.new ≡ mark p map.old body.now }
 {
-    x as usize
-}
-
-// The set with the picture `p`, where there is such a picture.
-fn with(set: u16, p: u8) -> u16
-    ensures { result ≡ adding most_pictures set p }
-{
-    if Book::PICTURES <= p {
-        return set;
+    for c in body {
+        map[usize::from(*c)] |= 1 << p;
     }
-    set | (1 << p)
-}
-
-// Whether the picture `p` is in the set.
-fn has(set: u16, p: u16) -> bool
-    ensures { result ≡ is_in set p }
-{
-    bits::has(set as u64, p as u32)
-}
-
-// Does the byte `c` fit the symbol, by the map?
-pub fn fits(pictures: &Pictures, c: u8, symbol: u16) -> bool
-    ensures { SaysWhetherFits pictures.now c symbol result }
-{
-    if symbol < 256 {
-        return c as u16 == symbol;
-    }
-    has(pictures[wide(c)], symbol - 256)
-}
-
-// ---- a rule's symbols
-
-// A symbol from its kind and its second byte.
-fn symbol(kind: u8, second: u8) -> u16
-    ensures { result ≡ 256 * kind + second }
-{
-    256 * (kind as u16) + second as u16
 }
 
 // The pairs of `body` as symbols, from the place `from` on.
+#[tactic(auto, using(crate::proofs::Stores::stores))]
 fn store(room: &mut [u16; Book::PLACES], from: usize, body: &[u8])
     requires { from + length body.now / 2 ≤ places }
     ensures { room.new ≡ sets room.old from (symbols_of body.now) }
 {
-    let mut j: usize = from;
-    let mut i: usize = 0;
-    while i + 1 < body.len() {
-        room[j] = symbol(body[i], body[i + 1]);
-        j += 1;
-        i += 2;
+    for (j, pair) in body.chunks_exact(2).enumerate() {
+        room[from + j] = u16::from_be_bytes([pair[0], pair[1]]);
     }
 }

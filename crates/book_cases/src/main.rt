@@ -5,8 +5,7 @@
 ghost use Rattle.std.specs.Prelude.{◌<◌};
 
 use book::Book;
-
-const PICTURES: usize = Book::PICTURES as usize;
+use numbered::Numbered;
 
 // The cases in their groups.
 fn main() {
@@ -28,69 +27,44 @@ fn main() {
 
 fn show(label: &[u8], bytes: &[u8]) {
     let got = reader::read(bytes);
-    let answer = got.answer;
-    let b = got.book;
-    let symbols = b.symbols;
-    let lengths = b.lengths;
-    let picture = b.picture;
+    let book = &got.book;
     io::write_all(1, label);
-    print(answer.number());
-    print(answer.value());
+    print(got.answer.number() as u64);
+    print(got.answer.value());
     io::write_all(1, b" |");
-    print(small(b.pictures));
-    print(b.rules);
-    print(length_in_all(&lengths));
-    print(sum_of(&symbols));
-    print(members(&picture));
+    print(book.pictures.into());
+    print(book.rules as u64);
+    print(sum_of(&book.lengths));
+    print(sum_of(&book.symbols));
+    print(members(book) as u64);
     io::write_all(1, b"\n");
 }
 
-fn print(n: usize) {
+// By hand, since `print!` takes the runtime, which would go through every function here. The same two lines are in `build_cases`: a crate that both stand on
+// were no plainer.
+fn print(n: u64) {
     io::write_all(1, b" ");
-    io::print_decimal(1, n as u64);
+    io::print_decimal(1, n);
 }
 
-fn small(x: u8) -> usize
-    ensures { result < 256 }
-{
-    x as usize
-}
-
-fn wide(x: u16) -> usize
-    ensures { result < 65536 }
-{
-    x as usize
-}
-
-fn length_in_all(lengths: &[u8; Book::RULES]) -> usize {
-    let mut sum: usize = 0;
-    let mut k: usize = 0;
-    while k < Book::RULES {
-        sum += small(lengths[k]);
-        k += 1;
-    }
-    sum
-}
-
-fn sum_of(symbols: &[u16; Book::PLACES]) -> usize {
-    let mut sum: usize = 0;
-    let mut i: usize = 0;
-    while i < Book::PLACES {
-        sum += wide(symbols[i]);
-        i += 1;
+// Sums here stay small; one that did not would wrap.
+fn sum_of<T: Copy + Into<u64>>(numbers: &[T]) -> u64 {
+    let mut sum = 0u64;
+    for n in numbers {
+        sum = sum.wrapping_add((*n).into());
     }
     sum
 }
 
 // How many pairs of a picture and a byte fit.
-fn members(picture: &book::Pictures) -> usize {
-    let mut n: usize = 0;
-    let mut i: usize = 0;
-    while i < 256 * PICTURES {
-        if book::fits(picture, (i / PICTURES) as u8, 256 + (i % PICTURES) as u16) {
-            n += 1;
+fn members(book: &Book) -> usize {
+    let mut n = 0usize;
+    for byte in 0..=255u8 {
+        for p in 0..16 {
+            if book.fits(byte, 256 + p) {
+                n = n.wrapping_add(1);
+            }
         }
-        i += 1;
     }
     n
 }
@@ -275,26 +249,15 @@ fn largest_book() {
 
 // ---- books too long to write out
 
-fn next(value: u8, more: u8) -> u8 {
-    ((value as u16 + more as u16) % 256) as u8
-}
-
 // Every `step` places from `from` on, before `to`: `first`, and each time `more` added.
 fn put(a: &mut [u8], from: usize, to: usize, step: usize, first: u8, more: u8)
     requires { 0 < step }
 {
+    let end = to.min(a.len());
     let mut value = first;
-    let mut i = from;
-    while i < to {
-        if a.len() <= i {
-            return;
-        }
-        a[i] = value;
-        if to - i <= step {
-            return;
-        }
-        i += step;
-        value = next(value, more);
+    for places in a[from.min(end)..end].chunks_mut(step) {
+        places[0] = value;
+        value = value.wrapping_add(more);
     }
 }
 
@@ -363,10 +326,8 @@ fn largest() -> [u8; 37683] {
 fn put_pictures(a: &mut [u8]) {
     put(a, 0, 4144, 259, 0x50, 0);
     put(a, 1, 4144, 259, 1, 0);
-    let mut p: usize = 0;
-    while p < 16 {
+    for p in 0..16 {
         put(a, 259 * p + 3, 259 * p + 259, 1, 0, 1);
-        p += 1;
     }
 }
 
@@ -374,10 +335,9 @@ fn put_pictures(a: &mut [u8]) {
 fn put_rules(a: &mut [u8]) {
     put(a, 4144, 37680, 131, 0x52, 0);
     put(a, 4146, 37680, 131, 128, 0);
-    let mut j: u8 = 0;
-    while j < 64 {
-        put(a, 4147 + 2 * small(j), 37680, 131, 1, 0);
-        put(a, 4148 + 2 * small(j), 37680, 131, j % 16, 0);
-        j += 1;
+    for j in 0..64u8 {
+        let place = 4147 + 2 * usize::from(j);
+        put(a, place, 37680, 131, 1, 0);
+        put(a, place + 1, 37680, 131, j % 16, 0);
     }
 }

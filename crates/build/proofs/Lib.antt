@@ -1,7 +1,8 @@
--- The laws of the builder. Assumes nothing.
+-- The laws of the builder. Words holds those on a set made number by number, and word by word. Assumes nothing.
 pub mod Laws
+pub mod Words
 pub mod Steps
-pub mod Chains
+pub mod InChains
 pub mod Sanity
 pub mod Zeroed
 pub mod Parts

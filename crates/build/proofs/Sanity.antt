@@ -1,26 +1,26 @@
 -- What the code of a build relies on holds throughout its course. Assumes nothing.
+use Rattle.std.proofs.Common.{Option, Some, None}
 use Prim.Native.Nat.{ℕ, zero, suc, ◌+◌, ◌*◌, ◌-◌, ◌≤◌, ◌<◌}
 use mathlib.Core.Path.{◌≡◌, refl, ap, subst, subst⁻¹, ◌∙◌}
 use mathlib.Core.Logic.{◌≢◌, inl, inr, ⊎_elim}
 use mathlib.Core.List.{List, ◌++◌}
 use native.Mathlib.Nat.{le_refl, le_trans, lt_of_lt_of_le, lt_of_not-le, add-sub_cancel_left}
 use native.Mathlib.Omega.{arith}
+use native.Mathlib.Decide.{dec_lt}
 use borrow.Author.Tests.{le-ltb}
-use borrow.Author.Count.{below_none}
 use lib.Seq.{get_or-take}
-use lib.ListN.{length, get_or, take, drop, length-take, length-drop, length-append, get_or-append}
+use lib.ListN.{length, get_or-eq_default, get_or, take, drop, length-take, length-drop, length-append, get_or-append}
 use Rattle.sets.proofs.Laws.{set_where-none}
 use Rattle.meaning.specs.Rules.{Rules, count, size, fits_at}
-use Rattle.meaning.specs.Tables.{no_entry, goto_at}
+use Rattle.meaning.specs.Tables.{Five, no_entry, goto_at}
+use Rattle.lent.specs.Lent.{AsLong}
 use Rattle.meaning.specs.Step.{goes_on, next_live, Follows, goes, falls}
 use Rattle.book.specs.Limits.{most_symbols}
 use Rattle.build.specs.Sets.{Short}
-use Rattle.build.specs.Course.{Others, number_at, Leads, RowsUsed, Rising, there, made, Place, root, none, some, Filling, begin, next, RowFilled, whole, RowsOk, IsEntry, Sane, RowBuilt, row_of, with_row, Building, start, grow, AllFilled, all}
-use Rattle.build.proofs.Laws.{below_set, All, all_append, all_take, all_drop, all_set}
+use Rattle.build.specs.Course.{Others, number_at, Leads, RowsUsed, Rising, there, made, Place, root, none, some, Filling, begin, next, RowFilled, whole, short as cut_short, RowsOk, IsEntry, Sane, RowBuilt, row_of, with_row, Building, start, grow, EveryRow, all, stuck, sides, AllFilled, crowded}
+use Rattle.std.specs.List.{All, AllWithin}
+use Rattle.std.proofs.lemmas.List.Elements.{All-set, All-take, All-drop, All-append, All-weaker, AllWithin-none, AllWithin-more_set}
 use Rattle.build.proofs.Steps.{stored_all, Kept, kept_refl, kept_more, place-keeps, filling-keeps, filling-long, filling-room, filling-rising}
-use Rattle.build.specs.declared.Placed.TheVariants as placed
-use Rattle.build.specs.declared.Filled.{Filled}
-use Rattle.build.specs.declared.Filled.TheVariants as filled
 
 -- the part of goto that is lent for row s, as the code cuts it
 abbrev part : List ℕ → ℕ → List ℕ
@@ -33,20 +33,24 @@ more : {n m e : ℕ} → n ≤ m → IsEntry n e → IsEntry m e
 more le (inl q) = inl q
 more le (inr l) = inr (lt_of_lt_of_le l le)
 
-module _ {lent n : ℕ} {goto : List ℕ} {t : Others} (sane : Sane lent n goto t) where
+-- past the end stands 0, which is a row
+entry_at : {n : ℕ} (xs : List ℕ) → 0 < n → All (IsEntry n) xs → (j : ℕ) → IsEntry n (get_or xs j 0)
+entry_at xs pos h j = elim (dec_lt j (length xs)) [ yes l ↦ h j 0 l | no g ↦ rw (get_or-eq_default xs 0 {n = j} (omega arith)) (inr pos) ]
+
+module _ {lent n : ℕ} {goto : List ℕ} {t : Others} (sane : Sane lent n goto t) (pos : 0 < n) where
   follows_below : {c r m e : ℕ} → Follows (goto_at goto) (number_at t.fall) c r m e → e < n
-  follows_below (goes ne) = ⊎_elim (λ q. absurd (ne q)) (λ l. l) (sane.entries _)
+  follows_below (goes ne) = ⊎_elim (λ q. absurd (ne q)) (λ l. l) (entry_at goto pos sane.entries _)
   follows_below (falls e f) = follows_below f
 
   pub leads_below : {c r e : ℕ} → Leads goto t.fall c r e → e < n
   leads_below x = follows_below x.way
 
 -- a row filled in the part of goto that was lent, which comes back in its place
-pub built : {r : Rules} {lent n s : ℕ} {goto : List ℕ} {t u : Others} {x : Filled} (via row : List ℕ)
+pub built : {r : Rules} {lent n s m : ℕ} {goto : List ℕ} {t u : Others} {x : Option (Unit {0})} (via row : List ℕ)
     → ((c : ℕ) → c < 256 → Leads goto t.fall c (get_or t.fall s 0) (get_or via c 0))
-    → RowFilled r lent s via (part goto s) n t row u x
-    → RowBuilt r lent n s goto t (take (256 * s) goto ++ (row ++ drop (256 * s + 256 - 256 * s) (drop (256 * s) goto))) u x
-built {r} {lent} {n} {s} {goto} {t} {u} {x} via row leads f =
+    → RowFilled r lent s via (part goto s) n t row u m x
+    → RowBuilt r lent n s goto t (take (256 * s) goto ++ (row ++ drop (256 * s + 256 - 256 * s) (drop (256 * s) goto))) u m x
+built {r} {lent} {n} {s} {m} {goto} {t} {u} {x} via row leads f =
     record { via = via; row = row; leads = leads; filled_row = rw span at f; put = rw span }
 
 -- a rule that goes on is longer than what is held
@@ -64,10 +68,10 @@ record Entered (s e m : ℕ) (u : Others) : Type 0 where
 record Rowed (s c : ℕ) (row : List ℕ) (n : ℕ) (t : Others) : Type 0 where
   ok : RowsOk n t
   entries : All (IsEntry n) row
-  rooted : s ≡ 0 → (j : ℕ) → j < c → get_or row j 0 ≢ no_entry
+  rooted : s ≡ 0 → AllWithin (λ x. x ≢ no_entry) row 0 c
 
 module _ {r : Rules} {lent : ℕ} (short : Short r) where
-  place_sane : {s c v n e m : ℕ} {t u : Others} → RowsUsed lent n t → RowsOk n t → s < n → v < n → Place r lent s c v n t u (placed.Entry e m) → Entered s e m u
+  place_sane : {s c v n e m : ℕ} {t u : Others} → RowsUsed lent n t → RowsOk n t → s < n → v < n → Place r lent s c v n t u m (Some e) → Entered s e m u
   place_sane room ok hs hv (root z l) = record { ok = ok; entry = inr (omega arith); rooted = λ _ q. omega arith }
   place_sane room ok hs hv (none nz l) = record { ok = ok; entry = inl refl; rooted = λ z _. nz z }
   place_sane room ok hs hv (some ne (there i h k)) = record { ok = ok; entry = inr h; rooted = λ _ q. omega arith }
@@ -86,15 +90,15 @@ module _ {r : Rules} {lent : ℕ} (short : Short r) where
   module _ {s n₀ : ℕ} {via row₀ : List ℕ} {t₀ : Others} (room : RowsUsed lent n₀ t₀) (ok : RowsOk n₀ t₀) (old : All (IsEntry n₀) row₀) (long : length row₀ ≡ 256) (hs : s < n₀)
       (hv : (c : ℕ) → c < 256 → get_or via c 0 < n₀) where
     filling_sane : {c n : ℕ} {row : List ℕ} {t : Others} → c ≤ 256 → Filling r lent s via row₀ n₀ t₀ c row n t → Rowed s c row n t
-    filling_sane h begin = record { ok = ok; entries = old; rooted = λ z. below_none _ }
+    filling_sane h begin = record { ok = ok; entries = old; rooted = λ z. AllWithin-none (λ x. x ≢ no_entry) row₀ 0 }
     filling_sane h (next {c = c} {e = e} {row = row} f p) =
         let k = filling_sane (omega arith) f in
         let up = (filling-keeps f).grown in
         let q = place_sane (filling-room room f) k.ok (lt_of_lt_of_le hs up) (lt_of_lt_of_le (hv c (omega arith)) up) p in
         record {
           ok = q.ok;
-          entries = all_set (IsEntry _) row c e (λ j. more (place-keeps p).grown (k.entries j)) q.entry;
-          rooted = λ z. below_set (λ _ x. x ≢ no_entry) row c e (omega (arith, filling-long f)) (k.rooted z) (q.rooted z);
+          entries = All-set (IsEntry _) row c e q.entry (All-weaker (IsEntry _) (IsEntry _) (λ x. more (place-keeps p).grown) row k.entries);
+          rooted = λ z. AllWithin-more_set row c e (omega (arith, filling-long f)) (λ x. x ≢ no_entry) (k.rooted z) (q.rooted z);
         }
 
 -- a list with a row put in its place
@@ -107,11 +111,13 @@ with_first P goto zero row h l old new c lt = rw (get_or-append row _ 0 c (omega
 with_first P goto (suc s) row h l old new c lt =
     rw (get_or-append (take (256 * suc s) goto) _ 0 c (simp length-take (omega arith)), get_or-take (256 * suc s) goto c 0 (omega arith)) (old c lt)
 
-of_filled : {r : Rules} {lent s n m : ℕ} {via row₀ row : List ℕ} {t u : Others} → RowFilled r lent s via row₀ n t row u (filled.Rows m) → Kept n t m u
+of_filled : {r : Rules} {lent s n m : ℕ} {via row₀ row : List ℕ} {t u : Others} {x : Option (Unit {0})} → RowFilled r lent s via row₀ n t row u m x → Kept n t m u
 of_filled (whole f) = filling-keeps f
+of_filled (cut_short h f p) = kept_more (filling-keeps f) (place-keeps p)
 
-pub row_length : {r : Rules} {lent s n m : ℕ} {via row₀ row : List ℕ} {t u : Others} → RowFilled r lent s via row₀ n t row u (filled.Rows m) → length row ≡ length row₀
+pub row_length : {r : Rules} {lent s n m : ℕ} {via row₀ row : List ℕ} {t u : Others} {x : Option (Unit {0})} → RowFilled r lent s via row₀ n t row u m x → length row ≡ length row₀
 row_length (whole f) = filling-long f
+row_length (cut_short h f p) = filling-long f
 
 module _ {r : Rules} {lent n s : ℕ} {goto : List ℕ} {t : Others} (short : Short r) (sane : Sane lent n goto t) (hs : s < n) where
   in_goto : 256 * s + 256 ≤ length goto
@@ -119,32 +125,31 @@ module _ {r : Rules} {lent n s : ℕ} {goto : List ℕ} {t : Others} (short : Sh
 
   -- row s filled and put in its place
   of_row : {u : Others} {m : ℕ} (via row : List ℕ) → ((c : ℕ) → c < 256 → Leads goto t.fall c (get_or t.fall s 0) (get_or via c 0))
-      → RowFilled r lent s via (row_of goto s) n t row u (filled.Rows m) → Sane lent m (with_row goto s row) u
+      → RowFilled r lent s via (row_of goto s) n t row u m (Some tt) → Sane lent m (with_row goto s row) u
   of_row {m = m} via row leads (whole f) =
       let long : length (row_of goto s) ≡ 256 = simp (length-take, length-drop) (omega (arith, in_goto)) in
-      let at_0 : IsEntry n 0 = inr (omega arith) in
-      let old = all_take (IsEntry n) 256 (drop (256 * s) goto) at_0 (all_drop (IsEntry n) (256 * s) goto sane.entries) in
-      let k = filling_sane short sane.room sane.rows old long hs (λ c h. leads_below sane (leads c h)) (le_refl 256) f in
+      let old = All-take (IsEntry n) 256 (drop (256 * s) goto) (All-drop (IsEntry n) (256 * s) goto sane.entries) in
+      let k = filling_sane short sane.room sane.rows old long hs (λ c h. leads_below sane (omega arith) (leads c h)) (le_refl 256) f in
       let up = (filling-keeps f).grown in
-      let keep : All (IsEntry m) goto = λ j. more up (sane.entries j) in
+      let keep = All-weaker (IsEntry n) (IsEntry m) (λ x. more up) goto sane.entries in
       record {
         room = filling-room sane.room f;
         rows = k.ok;
         goto_room = rw (with_long goto s row in_goto (filling-long f ∙ long)) sane.goto_room;
         entries =
-            all_append (IsEntry m) (take (256 * s) goto) (row ++ drop 256 (drop (256 * s) goto)) (all_take (IsEntry m) (256 * s) goto (more up at_0) keep)
-            (all_append (IsEntry m) row (drop 256 (drop (256 * s) goto)) k.entries (all_drop (IsEntry m) 256 (drop (256 * s) goto) (all_drop (IsEntry m) (256 * s) goto keep)));
-        last = with_first (λ x. x ≢ no_entry) goto s row in_goto (filling-long f ∙ long) sane.last k.rooted;
+            All-append (IsEntry m) (take (256 * s) goto) (row ++ drop 256 (drop (256 * s) goto)) (All-take (IsEntry m) (256 * s) goto keep)
+            (All-append (IsEntry m) row (drop 256 (drop (256 * s) goto)) k.entries (All-drop (IsEntry m) 256 (drop (256 * s) goto) (All-drop (IsEntry m) (256 * s) goto keep)));
+        last = with_first (λ x. x ≢ no_entry) goto s row in_goto (filling-long f ∙ long) sane.last (λ z c. k.rooted z c 0 (omega arith));
       }
 
   -- where row s is filled, all is as the next row relies on
-  pub row_sane : {goto' : List ℕ} {u : Others} {m : ℕ} → RowBuilt r lent n s goto t goto' u (filled.Rows m) → Sane lent m goto' u
+  pub row_sane : {goto' : List ℕ} {u : Others} {m : ℕ} → RowBuilt r lent n s goto t goto' u m (Some tt) → Sane lent m goto' u
   row_sane {u = u} {m = m} x = subst⁻¹ (λ (g : List ℕ). Sane lent m g u) x.put (of_row x.via x.row x.leads x.filled_row)
 
-  pub row_keeps : {goto' : List ℕ} {u : Others} {m : ℕ} → RowBuilt r lent n s goto t goto' u (filled.Rows m) → Kept n t m u
+  pub row_keeps : {goto' : List ℕ} {u : Others} {m : ℕ} {x : Option (Unit {0})} → RowBuilt r lent n s goto t goto' u m x → Kept n t m u
   row_keeps x = of_filled x.filled_row
 
-  pub row_long : {goto' : List ℕ} {u : Others} {m : ℕ} → RowBuilt r lent n s goto t goto' u (filled.Rows m) → length goto' ≡ length goto
+  pub row_long : {goto' : List ℕ} {u : Others} {m : ℕ} {x : Option (Unit {0})} → RowBuilt r lent n s goto t goto' u m x → length goto' ≡ length goto
   row_long x = ap length x.put ∙ with_long goto s x.row in_goto (row_length x.filled_row ∙ simp (length-take, length-drop) (omega (arith, in_goto)))
 
 -- the first s rows keep what the next relies on, and the tables' lengths
@@ -159,12 +164,25 @@ grown short sane₀ (grow f h x) =
     let k = grown short sane₀ f in
     record { sane = row_sane short k.sane h x; long = row_long short k.sane h x ∙ k.long; kept = kept_more k.kept (row_keeps short k.sane h x) }
 
-pub all-at : {r : Rules} {lent s n : ℕ} {goto₀ goto : List ℕ} {t₀ t : Others} → s ≡ n → Building r lent goto₀ t₀ s goto n t → AllFilled r lent goto₀ t₀ goto t (filled.Rows n)
+-- where there is no room, the tables are as long as they were
+pub crowded-long : {r : Rules} {lent : ℕ} {a b : Five} → Short r → Sane lent 1 a.goto (sides a) → AllFilled r lent a b None → AsLong a b
+crowded-long short sane (crowded (stuck f h x)) =
+    let g = grown short sane f in
+    let k = kept_more g.kept (row_keeps short g.sane h x) in
+    record {
+      goto_long = row_long short g.sane h x ∙ g.long;
+      fall_long = k.fall.long;
+      held_long = k.held.long;
+      live_long = k.live.long;
+      out_long = k.out.long;
+    }
+
+pub all-at : {r : Rules} {lent s n : ℕ} {goto₀ goto : List ℕ} {t₀ t : Others} → s ≡ n → Building r lent goto₀ t₀ s goto n t → EveryRow r lent goto₀ t₀ goto t n (Some tt)
 all-at {r} {lent} {s} {n} {goto₀} {goto} {t₀} {t} e f = all (subst (λ (k : ℕ). Building r lent goto₀ t₀ k goto n t) e f)
 
 -- the held lengths of the rows so far ascend, with none more than one above that of the next row
 filled-rising : {r : Rules} {lent s n m : ℕ} {via row₀ row : List ℕ} {t u : Others} → s < n → Rising t.held n (get_or t.held s 0 + 1)
-    → RowFilled r lent s via row₀ n t row u (filled.Rows m) → Rising u.held m (get_or u.held s 0 + 1)
+    → RowFilled r lent s via row₀ n t row u m (Some tt) → Rising u.held m (get_or u.held s 0 + 1)
 filled-rising hs k (whole f) = filling-rising hs k f
 
 first-rising : (xs : List ℕ) → Rising xs 1 (get_or xs 0 0 + 1)

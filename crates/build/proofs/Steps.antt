@@ -3,6 +3,7 @@ use mathlib.Core.Path.{◌≡◌, refl, sym, subst, subst⁻¹, ◌∙◌}
 use mathlib.Core.Logic.{◌≢◌}
 use mathlib.Core.Bool.{Bool, ◌&&◌}
 use mathlib.Core.List.{List, ◌++◌, append_assoc}
+use Rattle.std.proofs.Common.{Option, Some}
 use Prim.Native.Nat.{ℕ, suc, ◌+◌, ◌-◌, ◌*◌, ◌≤◌, ◌<◌}
 use native.Mathlib.Nat.{le_refl, le_trans, lt_of_lt_of_le}
 use native.Mathlib.Omega.{arith}
@@ -15,13 +16,10 @@ use Rattle.sets.specs.Sets.{set_of}
 use Rattle.sets.specs.Table.{row_words, rules_at}
 use Rattle.sets.proofs.Table.{row_of, rules-part, rules-words, row_long, rules-same}
 use Rattle.meaning.specs.Rules.{Rules}
-use Rattle.meaning.specs.Step.{finished}
 use Rattle.lent.specs.Lent.{stored_row}
 use Rattle.lent.proofs.Storing.{stored_row_lem}
-use Rattle.build.specs.Course.{Others, number_at, Stored, RowsUsed, Rising, InHand, RowOf, there, made, Place, root, none, some, onward, Filling, begin, next, RowFilled, whole}
-use Rattle.build.specs.declared.Filled.TheVariants as filled
-use Rattle.build.specs.declared.Placed.{Placed}
-use Rattle.build.specs.declared.Placed.TheVariants as placed
+use Rattle.build.specs.Course.{Others, number_at, Stored, Added, RowsUsed, Rising, InHand, RowOf, there, made, full, Place, root, none, some, Filling, begin, next, RowFilled, whole, SameRows}
+use Rattle.build.specs.declared.Rows.{Rows}
 use Rattle.build.proofs.Parts.{put_before, put_in, put_after}
 
 -- ---- stores
@@ -67,10 +65,16 @@ pub stored_all : {w n v : ℕ} {read : List ℕ → ℕ → ℕ} {xs ys : List �
 stored_all {n = n} P st old new i l =
     elim (dec_lt i n) [ yes h ↦ rw (st.kept i h) (old i h) | no g ↦ let e : i ≡ n = omega arith in rw (e, st.here) new ]
 
-pub some_with : {r : Rules} {lent s c v n : ℕ} {t u : Others} {x : Placed} {l e : ℕ} → l ≡ onward r t s c → e ≡ finished r (get_or t.held s 0 + 1) l → l ≢ 0
-    → RowOf e lent n (get_or t.held s 0 + 1) l v t u x → Place r lent s c v n t u x
-some_with {r} {lent} {s} {c} {v} {n} {t} {u} {x} {l} {e} q d ne p =
-    some (λ z. ne (q ∙ z)) (subst (λ (l : ℕ). RowOf (finished r (get_or t.held s 0 + 1) l) lent n (get_or t.held s 0 + 1) l v t u x) q (rw d at p))
+-- the room for rows, after a new one
+pub room_added : {e lent n h l f : ℕ} {t u : Others} → RowsUsed lent n t → n < lent → Added e n h l f t u → RowsUsed lent (n + 1) u
+room_added room lt a = record {
+  used = omega arith;
+  few = room.few;
+  fall_room = rw a.fall_put.long room.fall_room;
+  held_room = rw a.held_put.long room.held_room;
+  live_room = rw a.live_put.long room.live_room;
+  out_room = rw a.out_put.long room.out_room;
+}
 
 -- ---- what a step keeps
 
@@ -115,8 +119,9 @@ kept_more p q = record {
 }
 
 module _ {lent d : ℕ} where
-  row_of_keeps : {n h l f e m : ℕ} {t u : Others} → RowOf d lent n h l f t u (placed.Entry e m) → Kept n t m u
+  row_of_keeps : {n h l f m : ℕ} {t u : Others} {x : Option ℕ} → RowOf d lent n h l f t u m x → Kept n t m u
   row_of_keeps {n = n} {t = t} (there i h k) = kept_refl n t
+  row_of_keeps {n = n} {t = t} (full new h) = kept_refl n t
   row_of_keeps (made new room a) = record {
     grown = omega arith;
     fall = grew_stored a.fall_put;
@@ -125,17 +130,17 @@ module _ {lent d : ℕ} where
     out = grew_stored a.out_put;
   }
 
-  row_of_fits : {n h l f e m : ℕ} {t u : Others} → n ≤ lent → RowOf d lent n h l f t u (placed.Entry e m) → m ≤ lent
+  row_of_fits : {n h l f e m : ℕ} {t u : Others} → n ≤ lent → RowOf d lent n h l f t u m (Some e) → m ≤ lent
   row_of_fits le (there i h k) = le
   row_of_fits le (made new room a) = omega arith
 
 module _ {r : Rules} {lent : ℕ} where
-  pub place-keeps : {s c v n e m : ℕ} {t u : Others} → Place r lent s c v n t u (placed.Entry e m) → Kept n t m u
+  pub place-keeps : {s c v n m : ℕ} {t u : Others} {x : Option ℕ} → Place r lent s c v n t u m x → Kept n t m u
   place-keeps {n = n} {t = t} (root z l) = kept_refl n t
   place-keeps {n = n} {t = t} (none z l) = kept_refl n t
   place-keeps (some l r) = row_of_keeps r
 
-  place-fits : {s c v n e m : ℕ} {t u : Others} → n ≤ lent → Place r lent s c v n t u (placed.Entry e m) → m ≤ lent
+  place-fits : {s c v n e m : ℕ} {t u : Others} → n ≤ lent → Place r lent s c v n t u m (Some e) → m ≤ lent
   place-fits le (root z l) = le
   place-fits le (none z l) = le
   place-fits le (some l r) = row_of_fits le r
@@ -165,7 +170,7 @@ module _ {r : Rules} {lent : ℕ} where
           out_room = rw k.out.long room.out_room;
         }
 
-    pub whole_at : {c m : ℕ} {row : List ℕ} {u : Others} → c ≡ 256 → Filling r lent s via row₀ n₀ t₀ c row m u → RowFilled r lent s via row₀ n₀ t₀ row u (filled.Rows m)
+    pub whole_at : {c m : ℕ} {row : List ℕ} {u : Others} → c ≡ 256 → Filling r lent s via row₀ n₀ t₀ c row m u → RowFilled r lent s via row₀ n₀ t₀ row u m (Some tt)
     whole_at {m = m} {row = row} {u = u} e f = whole (subst (λ (k : ℕ). Filling r lent s via row₀ n₀ t₀ k row m u) e f)
 
 -- ---- the held lengths ascend, with none more than one above that of the row in hand
@@ -187,7 +192,7 @@ rising_stored {s} {n} {xs} {ys} hs k st = rw (st.kept s hs) (record { up = up; t
         ]
 
 module _ {r : Rules} {lent s : ℕ} where
-  place-rising : {c v n e m : ℕ} {t u : Others} → s < n → Rising t.held n (get_or t.held s 0 + 1) → Place r lent s c v n t u (placed.Entry e m)
+  place-rising : {c v n e m : ℕ} {t u : Others} → s < n → Rising t.held n (get_or t.held s 0 + 1) → Place r lent s c v n t u m (Some e)
       → Rising u.held m (get_or u.held s 0 + 1)
   place-rising hs k (root z l) = k
   place-rising hs k (none z l) = k
@@ -199,11 +204,25 @@ module _ {r : Rules} {lent s : ℕ} where
   filling-rising hs k begin = k
   filling-rising hs k (next f p) = place-rising (lt_of_lt_of_le hs (filling-keeps f).grown) (filling-rising hs k f) p
 
-  pub filling_in_hand : {n₀ : ℕ} {via row₀ : List ℕ} {t₀ : Others} → InHand lent n₀ s t₀ → {c n : ℕ} {row : List ℕ} {t : Others} → Filling r lent s via row₀ n₀ t₀ c row n t → InHand lent n s t
+  pub filling_in_hand : {n₀ : ℕ} {via row₀ : List ℕ} {t₀ : Others} → InHand n₀ s t₀ → {c n : ℕ} {row : List ℕ} {t : Others} → Filling r lent s via row₀ n₀ t₀ c row n t → InHand n s t
   filling_in_hand x f =
       let k = filling-keeps f in record {
-        room = filling-room x.room f;
         row = lt_of_lt_of_le x.row k.grown;
         short_held = rw (k.held.old _ x.row) x.short_held;
         rising = filling-rising x.row x.rising f;
       }
+
+-- ---- the same buffers
+
+pub same_refl : (r : Rows) → SameRows r r
+same_refl r = record { fall_same = refl; held_same = refl; live_same = refl; out_same = refl; lent_same = refl; book_same = refl }
+
+pub same_more : {a b c : Rows} → SameRows a b → SameRows b c → SameRows a c
+same_more p q = record {
+  fall_same = q.fall_same ∙ p.fall_same;
+  held_same = q.held_same ∙ p.held_same;
+  live_same = q.live_same ∙ p.live_same;
+  out_same = q.out_same ∙ p.out_same;
+  lent_same = q.lent_same ∙ p.lent_same;
+  book_same = q.book_same ∙ p.book_same;
+}

@@ -3,6 +3,7 @@
 use mathlib.Core.Path.{◌≡◌, refl, subst, subst⁻¹, ◌∙◌}
 use mathlib.Core.Logic.{inl, inr}
 use mathlib.Core.List.{List, [], ◌∷◌, ◌++◌}
+use Rattle.std.proofs.Common.{Some, None}
 use Prim.Native.Nat.{ℕ, ◌+◌, ◌-◌, ◌*◌, ◌≤◌, ◌<◌}
 use native.Mathlib.Nat.{le_refl, mul-suc}
 use native.Mathlib.Numerals.{add-one}
@@ -17,18 +18,15 @@ use Rattle.sets.specs.Table.{row_words, rules_at}
 use Rattle.sets.proofs.Table.{rules-none}
 use Rattle.meaning.specs.Rules.{Rules}
 use Rattle.meaning.specs.Standing.{Same}
-use Rattle.meaning.specs.Tables.{goto_at, ZeroFrom, Tables}
+use Rattle.meaning.specs.Tables.{Five, goto_at, ZeroFrom, Tables}
 use Rattle.meaning.specs.Step.{Follows, goes, falls}
 use Rattle.meaning.proofs.Congruent.{congruence}
 use Rattle.meaning.proofs.Unique.{rows_or_more}
 use Rattle.meaning.proofs.Build.{Filling as Filled-to, Built, Via, Put, Row, place-root, place_none, place-there, place-full, place-made, built-start, built_fill, built_via, built-next, built_finish}
 use Rattle.build.specs.Sets.{Short}
 use Rattle.lent.specs.Lent.{zeros, zeroed}
-use Rattle.promised.specs.Promise.{number_of, value_of, Builds, accepted, no_room}
-use Rattle.build.specs.Course.{Others, five_of, number_at, columns_of, Stored, Added, Leads, RowsUsed, there, made, full, Place, root, none, some, Filling, begin, next, RowFilled, whole, short, Sane, RowBuilt, row_of, Building, start, grow, AllFilled, all, stuck, zero_others, Makes, rows, empty, refused}
-use Rattle.promised.specs.declared.Built.{Built as Answer}
-use Rattle.build.specs.declared.Placed.TheVariants as placed
-use Rattle.build.specs.declared.Filled.TheVariants as filled
+use Rattle.promised.specs.Promise.{Built as Answer, number_of, value_of, Builds, accepted, no_room}
+use Rattle.build.specs.Course.{Others, five_of, number_at, columns_of, Stored, Added, Leads, RowsUsed, there, made, full, Place, root, none, some, Filling, begin, next, RowFilled, whole, short, Sane, RowBuilt, row_of, Building, start, grow, sides, all, stuck, AllFilled, filled, crowded, Makes, made_all, empty, refused}
 use Rattle.sets.proofs.Zeros.{zero_at}
 use Rattle.build.proofs.Parts.{put_before, put_in, put_after}
 use Rattle.build.proofs.Steps.{stored_number, filling-keeps, filling-room, filling-long}
@@ -46,7 +44,7 @@ record Blanks (n : ℕ) (t : Others) : Type 0 where
 zero_stored : {w n v : ℕ} {read : List ℕ → ℕ → ℕ} {xs ys : List ℕ} → Stored w read n v xs ys → ZeroFrom (w * n) xs → ZeroFrom (w * (n + 1)) ys
 zero_stored {w} {n} st b i h = let l : w * n + w ≤ i = rw (add-one, mul-suc) at h in st.past i (rw mul-suc l) ∙ b i (omega arith)
 
-place_blank : {r : Rules} {lent s c v n e m : ℕ} {t u : Others} → Blanks n t → Place r lent s c v n t u (placed.Entry e m) → Blanks m u
+place_blank : {r : Rules} {lent s c v n e m : ℕ} {t u : Others} → Blanks n t → Place r lent s c v n t u m (Some e) → Blanks m u
 place_blank b (root z l) = b
 place_blank b (none z l) = b
 place_blank b (some l (there i h k)) = b
@@ -61,7 +59,7 @@ filling_blank : {r : Rules} {lent s n₀ : ℕ} {via row₀ : List ℕ} {t₀ : 
 filling_blank b begin = b
 filling_blank b (next f p) = place_blank (filling_blank b f) p
 
-filled_blank : {r : Rules} {lent s n m : ℕ} {via row₀ row : List ℕ} {t u : Others} → Blanks n t → RowFilled r lent s via row₀ n t row u (filled.Rows m) → Blanks m u
+filled_blank : {r : Rules} {lent s n m : ℕ} {via row₀ row : List ℕ} {t u : Others} → Blanks n t → RowFilled r lent s via row₀ n t row u m (Some tt) → Blanks m u
 filled_blank b (whole f) = filling_blank b f
 
 -- ---- one row
@@ -84,7 +82,7 @@ added_row a = record { fall_put = put_stored a.fall_put; held_put = put_stored a
 
 module _ {r : Rules} (goto via row : List ℕ) {s c : ℕ} (t : Others) {ts : List (List ℕ)} (f : Filled-to r ts (goto_at goto) (number_at via) (number_at row) (columns_of t) s c)
     (l : s < length ts) (byte : c < 256) (wide : c < length row) where
-  placed_on : {lent e m : ℕ} {u : Others} → Place r lent s c (get_or via c 0) (length ts) t u (placed.Entry e m) → InRow r goto via (set row c e) s (c + 1) m u
+  placed_on : {lent e m : ℕ} {u : Others} → Place r lent s c (get_or via c 0) (length ts) t u m (Some e) → InRow r goto via (set row c e) s (c + 1) m u
   placed_on (root z dry) = record { ts = ts; count = refl; is = place-root f l byte dry z (put-entry row c _ wide) }
   placed_on (none nz dry) = record { ts = ts; count = refl; is = place_none f l byte dry (omega arith) (put-entry row c _ wide) }
   placed_on (some wet (there i h k)) = record { ts = ts; count = refl; is = place-there f l byte wet i h (k.held_is, k.live_is, k.fall_is) (put-entry row c i wide) }
@@ -97,7 +95,7 @@ module _ {r : Rules} (goto via row : List ℕ) {s c : ℕ} (t : Others) {ts : Li
             (put-entry row c (length ts) wide) (added_row a);
       }
 
-  placed_full : {lent : ℕ} {u : Others} → RowsUsed lent (length ts) t → Place r lent s c (get_or via c 0) (length ts) t u placed.Full → MoreThan (Same r) lent
+  placed_full : {lent m : ℕ} {u : Others} → RowsUsed lent (length ts) t → Place r lent s c (get_or via c 0) (length ts) t u m None → MoreThan (Same r) lent
   placed_full {lent} room (some wet (full new h)) =
       let e : length ts ≡ lent = omega (arith, room.used) in
       subst (MoreThan (Same r)) e (place-full f l byte wet (λ i k (x, y, z). new i k (record { held_is = x; live_is = y; fall_is = z })))
@@ -110,18 +108,18 @@ module _ {r : Rules} {goto via row₀ : List ℕ} {lent s n₀ : ℕ} {t₀ : Ot
       let k = in_row (omega arith) f in
       let up = (filling-keeps f).grown in
       placed_on goto via row t k.is (omega (arith, k.count)) (omega arith) (omega (arith, filling-long f))
-      (subst⁻¹ (λ (i : ℕ). Place r lent s c (get_or via c 0) i t u (placed.Entry e m)) k.count p)
+      (subst⁻¹ (λ (i : ℕ). Place r lent s c (get_or via c 0) i t u m (Some e)) k.count p)
 
-  row_whole : {m : ℕ} {row : List ℕ} {u : Others} → RowFilled r lent s via row₀ n₀ t₀ row u (filled.Rows m) → InRow r goto via row s 256 m u
+  row_whole : {m : ℕ} {row : List ℕ} {u : Others} → RowFilled r lent s via row₀ n₀ t₀ row u m (Some tt) → InRow r goto via row s 256 m u
   row_whole (whole f) = in_row (le_refl 256) f
 
-  row_short : {row : List ℕ} {u : Others} → RowFilled r lent s via row₀ n₀ t₀ row u filled.Full → MoreThan (Same r) lent
-  row_short {row = row} {u = u} (short {c = c} {t = t} h f p) =
+  row_short : {m : ℕ} {row : List ℕ} {u : Others} → RowFilled r lent s via row₀ n₀ t₀ row u m None → MoreThan (Same r) lent
+  row_short {m = m} {row = row} {u = u} (short {c = c} {t = t} h f p) =
       let k = in_row (omega arith) f in
       let up = (filling-keeps f).grown in
       placed_full goto via row t k.is (omega (arith, k.count)) h (omega (arith, filling-long f))
       (subst⁻¹ (λ (i : ℕ). RowsUsed lent i t) k.count (filling-room room f))
-      (subst⁻¹ (λ (i : ℕ). Place r lent s c (get_or via c 0) i t u placed.Full) k.count p)
+      (subst⁻¹ (λ (i : ℕ). Place r lent s c (get_or via c 0) i t u m None) k.count p)
 
 -- ---- row after row
 
@@ -155,10 +153,10 @@ module _ {r : Rules} {lent s n : ℕ} {goto : List ℕ} {t : Others} (sane : San
   opened : (via : List ℕ) → ((c : ℕ) → c < 256 → Leads goto t.fall c (get_or t.fall s 0) (get_or via c 0)) → InRow r goto via (row_of goto s) s 0 n t
   opened via leads = record { ts = k.ts; count = k.count; is = built_fill k.is (number_at via) (number_at (row_of goto s)) (via_right via leads) }
 
-  row_crowded : {goto' : List ℕ} {u : Others} → RowBuilt r lent n s goto t goto' u filled.Full → MoreThan (Same r) lent
+  row_crowded : {goto' : List ℕ} {u : Others} {m : ℕ} → RowBuilt r lent n s goto t goto' u m None → MoreThan (Same r) lent
   row_crowded x = row_short sane.room h lent-long (opened x.via x.leads) x.filled_row
 
-  row_more : {goto' : List ℕ} {u : Others} {m : ℕ} → RowBuilt r lent n s goto t goto' u (filled.Rows m) → SoFar r (s + 1) goto' m u
+  row_more : {goto' : List ℕ} {u : Others} {m : ℕ} → RowBuilt r lent n s goto t goto' u m (Some tt) → SoFar r (s + 1) goto' m u
   row_more {goto' = goto'} x =
       let w = row_whole sane.room h lent-long (opened x.via x.leads) x.filled_row in
       let long = row_length x.filled_row ∙ lent-long in
@@ -204,20 +202,21 @@ module _ {r : Rules} {lent : ℕ} {goto₀ : List ℕ} {t₀ : Others} (small : 
   }
   building (grow f h x) = row_more (grown small sane f).sane h (building f) x
 
-  accepted_of : {goto : List ℕ} {u : Others} {n : ℕ} → AllFilled r lent goto₀ t₀ goto u (filled.Rows n) → (Grown lent goto₀ t₀ n goto u) × (SoFar r n goto n u)
-  accepted_of (all f) = (grown small sane f, building f)
+module _ {r : Rules} {lent : ℕ} {a b : Five} (small : Short r) (sane : Sane lent 1 a.goto (sides a)) (blank : ZeroFrom 0 a.goto) (blanks : Blanks 0 (sides a)) where
+  accepted_of : {n : ℕ} → AllFilled r lent a b (Some n) → (Grown lent a.goto (sides a) n b.goto (sides b)) × (SoFar r n b.goto n (sides b))
+  accepted_of (filled (all f)) = (grown small sane f, building small sane blank blanks f)
 
-  crowded_of : {goto : List ℕ} {u : Others} → AllFilled r lent goto₀ t₀ goto u filled.Full → MoreThan (Same r) lent
-  crowded_of (stuck f h x) = row_crowded (grown small sane f).sane h (building f) x
+  crowded_of : AllFilled r lent a b None → MoreThan (Same r) lent
+  crowded_of (crowded (stuck f h x)) = row_crowded (grown small sane f).sane h (building small sane blank blanks f) x
 
 -- ---- the whole, from tables of zeros
 
-zero-blanks : (t : Others) → Blanks 0 (zero_others t)
-zero-blanks t = record {
-  fall = λ i l. zero_at (length t.fall) i;
-  held = λ i l. zero_at (length t.held) i;
-  live = λ i l. zero_at (length t.live) i;
-  out = λ i l. zero_at (length t.out) i;
+zero-blanks : (b : Five) → Blanks 0 (sides (zeroed b))
+zero-blanks b = record {
+  fall = λ i l. zero_at (length b.fall) i;
+  held = λ i l. zero_at (length b.held) i;
+  live = λ i l. zero_at (length b.live) i;
+  out = λ i l. zero_at (length b.out) i;
 }
 
 as_long : {n : ℕ} (old : List ℕ) → n ≡ length (zeros old) → n ≡ length old
@@ -227,18 +226,16 @@ as_long old e = e ∙ length-replicate (length old) 0
 none_lent : (r : Rules) → MoreThan (Same r) 0
 none_lent r = elim (rows_or_more r 0) [ inl m ↦ m | inr a ↦ absurd (omega (arith, a.few, (root_row (congruence r) a.rows).0)) ]
 
-pub builds_of : {r : Rules} → Short r → (goto : List ℕ) (t : Others) {goto' : List ℕ} {u : Others} {x : Answer} → Makes r goto t goto' u x
-    → Builds r (five_of goto t) (five_of goto' u) (number_of x) (value_of x)
-builds_of {r} small goto t (rows ne f) =
-    let (g, k) = accepted_of small (zero_sane goto t ne) (λ i l. zero_at (length goto) i) (zero-blanks t) f in
+pub builds_of : {r : Rules} → Short r → (old : Five) {b : Five} {x : Answer} → Makes r old b x → Builds r old b (number_of x) (value_of x)
+builds_of {r} small old (made_all ne f) =
+    let (g, k) = accepted_of small (zero_sane old ne) (λ i l. zero_at (length old.goto) i) (zero-blanks old) f in
     accepted g.sane.room.used (tables_of k)
     (record {
-      goto_long = as_long goto g.long;
-      fall_long = as_long t.fall g.kept.fall.long;
-      held_long = as_long t.held g.kept.held.long;
-      live_long = as_long t.live g.kept.live.long;
-      out_long = as_long t.out g.kept.out.long;
+      goto_long = as_long old.goto g.long;
+      fall_long = as_long old.fall g.kept.fall.long;
+      held_long = as_long old.held g.kept.held.long;
+      live_long = as_long old.live g.kept.live.long;
+      out_long = as_long old.out g.kept.out.long;
     })
-builds_of {r} small goto t (empty z) =
-    subst (λ (n : ℕ). Builds r (five_of goto t) (zeroed (five_of goto t)) 10 n) z (no_room (subst⁻¹ (MoreThan (Same r)) z (none_lent r)))
-builds_of {r} small goto t (refused ne f) = no_room (crowded_of small (zero_sane goto t ne) (λ i l. zero_at (length goto) i) (zero-blanks t) f)
+builds_of {r} small old (empty z) = subst (λ (n : ℕ). Builds r old (zeroed old) 10 n) z (no_room (subst⁻¹ (MoreThan (Same r)) z (none_lent r)))
+builds_of {r} small old (refused ne f) = no_room (crowded_of small (zero_sane old ne) (λ i l. zero_at (length old.goto) i) (zero-blanks old) f)

@@ -1,19 +1,19 @@
 -- The course of a build, on numbers and lists alone: what one byte, one row and the whole come to. It describes the code; nothing in the promise cites it.
 -- Assumes nothing.
-use Rattle.std.specs.Prelude.{◌≡◌, ◌≢◌, ◌⊎◌, List, ◌++◌, ℕ, suc, ◌+◌, ◌*◌, ◌%◌, ◌≤◌, ◌<◌, length, get_or, set, take, drop}
+use Rattle.std.specs.Prelude.{◌≡◌, ◌≢◌, ◌⊎◌, List, ◌++◌, ℕ, suc, ◌+◌, ◌*◌, ◌%◌, ◌≤◌, ◌<◌, length, get_or, set, take, drop, Option, Some, None, MatchOption, Ok, Err}
+use Rattle.std.specs.List.{All}
 use Rattle.std.specs.Int.Bits.{bit_or}
 use Rattle.sets.specs.Table.{row_words, rules_at}
 use Rattle.meaning.specs.Rules.{Rules}
 use Rattle.meaning.specs.Tables.{no_entry, Columns, Five, goto_at}
 use Rattle.meaning.specs.Step.{next_live, finished, Follows}
 use Rattle.book.specs.Limits.{most_symbols, most_rows}
-use Rattle.lent.specs.Lent.{five, lent, zeros}
-use Rattle.build.specs.declared.Placed.{Placed}
-use Rattle.build.specs.declared.Placed.TheVariants as placed
-use Rattle.build.specs.declared.Filled.{Filled}
-use Rattle.build.specs.declared.Filled.TheVariants as filled
-use Rattle.promised.specs.declared.Built.{Built}
-use Rattle.promised.specs.declared.Built.TheVariants as built
+use Rattle.lent.specs.Lent.{five, lent, zeroed}
+use Rattle.promised.specs.declared.BuildRefusal.TheVariants.{NoRoom}
+use Rattle.promised.specs.Promise.{Built}
+use Rattle.build.specs.Sets.{Within}
+use Rattle.build.specs.declared.Chains.{Chains}
+use Rattle.build.specs.declared.Rows.{Rows}
 
 -- ---- the tables but for goto
 
@@ -25,6 +25,22 @@ pub record Others : Type 0 where
 
 abbrev pub others : List ℕ → List ℕ → List ℕ → List ℕ → Others
 others f h l o = record { fall = f; held = h; live = l; out = o }
+
+-- those of the rows so far, and of five tables
+abbrev pub others_of : Rows → Others
+others_of r = others r.fall.now r.held.now r.live.now r.out.now
+
+abbrev pub sides : Five → Others
+sides b = others b.fall b.held b.live b.out
+
+-- they are rows of one book, in the same buffers, and no more are lent, whatever is in them
+pub record SameRows (old new : Rows) : Type 0 where
+  pub fall_same : new.fall.ghost_name ≡ old.fall.ghost_name
+  pub held_same : new.held.ghost_name ≡ old.held.ghost_name
+  pub live_same : new.live.ghost_name ≡ old.live.ghost_name
+  pub out_same : new.out.ghost_name ≡ old.out.ghost_name
+  pub lent_same : new.lent ≡ old.lent
+  pub book_same : new.book.now ≡ old.book.now
 
 -- with goto they are the five
 abbrev pub five_of : List ℕ → Others → Five
@@ -54,15 +70,18 @@ pub record Added (e n h l f : ℕ) (t u : Others) : Type 0 where
 -- ---- the search for a row
 
 -- row i has these three numbers
-pub record Key (held live fall : List ℕ) (h l f i : ℕ) : Type 0 where
-  pub held_is : get_or held i 0 ≡ h
-  pub live_is : rules_at live i ≡ l
-  pub fall_is : get_or fall i 0 ≡ f
+pub record HasKey (t : Others) (h l f i : ℕ) : Type 0 where
+  pub held_is : get_or t.held i 0 ≡ h
+  pub live_is : rules_at t.live i ≡ l
+  pub fall_is : get_or t.fall i 0 ≡ f
 
--- r is one of the n rows with these three numbers, or n or more where there is none
-pub record Found (held live fall : List ℕ) (n h l f r : ℕ) : Type 0 where
-  pub here : r < n → Key held live fall h l f r
-  pub none : n ≤ r → (i : ℕ) → i < n → ¬ Key held live fall h l f i
+-- none of the n rows has
+abbrev pub NoKey : Others → ℕ → ℕ → ℕ → ℕ → Type 0
+NoKey t h l f n = (i : ℕ) → i < n → ¬ HasKey t h l f i
+
+-- one of the n rows that has, or none where there is none
+abbrev pub Found : Others → ℕ → ℕ → ℕ → ℕ → Option ℕ → Type 0
+Found t n h l f x = MatchOption x (NoKey t h l f n) (λ i. (i < n) × HasKey t h l f i)
 
 -- the held lengths of the n rows ascend, none is above h, and row 0's is below it
 pub record Rising (held : List ℕ) (n h : ℕ) : Type 0 where
@@ -84,47 +103,44 @@ pub record Newest (chain : ℕ → ℕ) (n g i : ℕ) : Type 0 where
   pub gap : (j : ℕ) → i < j → j < n → chain j ≢ g
 
 -- the rows in chains: `first` has the newest row of each chain, and `older` for each row the next one in its chain
-pub record Chains (first older : List ℕ) (chain : ℕ → ℕ) (n : ℕ) : Type 0 where
-  pub first_long : length first ≡ most_rows
-  pub older_long : length older ≡ most_rows
-  pub heads : (g : ℕ) → Newest chain n g (get_or first g 0)
-  pub links : (i : ℕ) → i < n → i ≢ 0 → Newest chain i (chain i) (get_or older i 0)
+pub record Chained (c : Chains) (chain : ℕ → ℕ) (n : ℕ) : Type 0 where
+  pub first_long : length c.first ≡ most_rows
+  pub older_long : length c.older ≡ most_rows
+  pub heads : (g : ℕ) → Newest chain n g (get_or c.first g 0)
+  pub links : (i : ℕ) → i < n → i ≢ 0 → Newest chain i (chain i) (get_or c.older i 0)
 
 -- ---- one byte
 
--- the row with three numbers is there, is made, or has no room
-abbrev pub NoKey : Others → ℕ → ℕ → ℕ → ℕ → Type 0
-NoKey t h l f n = (i : ℕ) → i < n → ¬ Key t.held t.live t.fall h l f i
-
-pub data RowOf (e lent n h l f : ℕ) (t : Others) : Others → Placed → Type 0 where
-  there : (i : ℕ) → i < n → Key t.held t.live t.fall h l f i → RowOf e lent n h l f t t (placed.Entry i n)
-  made : {u : Others} → NoKey t h l f n → n < lent → Added e n h l f t u → RowOf e lent n h l f t u (placed.Entry n (n + 1))
-  full : NoKey t h l f n → lent ≤ n → RowOf e lent n h l f t t placed.Full
+-- the row with three numbers is there, is made, or has no room; with the rows that there are then
+pub data RowOf (e lent n h l f : ℕ) (t : Others) : Others → ℕ → Option ℕ → Type 0 where
+  there : (i : ℕ) → i < n → HasKey t h l f i → RowOf e lent n h l f t t n (Some i)
+  made : {u : Others} → NoKey t h l f n → n < lent → Added e n h l f t u → RowOf e lent n h l f t u (n + 1) (Some n)
+  full : NoKey t h l f n → lent ≤ n → RowOf e lent n h l f t t n None
 
 -- the rules that go on from row s with the byte c
 abbrev pub onward : Rules → Others → ℕ → ℕ → ℕ
 onward r t s c = next_live r (get_or t.held s 0) (rules_at t.live s) c
 
 -- the entry of row s for the byte c, where the fall of s leads to v
-pub data Place (r : Rules) (lent s c v n : ℕ) (t : Others) : Others → Placed → Type 0 where
-  root : s ≡ 0 → onward r t s c ≡ 0 → Place r lent s c v n t t (placed.Entry 0 n)
-  none : s ≢ 0 → onward r t s c ≡ 0 → Place r lent s c v n t t (placed.Entry no_entry n)
-  some : {u : Others} {x : Placed} → onward r t s c ≢ 0
-      → RowOf (finished r (get_or t.held s 0 + 1) (onward r t s c)) lent n (get_or t.held s 0 + 1) (onward r t s c) v t u x → Place r lent s c v n t u x
+pub data Place (r : Rules) (lent s c v n : ℕ) (t : Others) : Others → ℕ → Option ℕ → Type 0 where
+  root : s ≡ 0 → onward r t s c ≡ 0 → Place r lent s c v n t t n (Some 0)
+  none : s ≢ 0 → onward r t s c ≡ 0 → Place r lent s c v n t t n (Some no_entry)
+  some : {u : Others} {m : ℕ} {x : Option ℕ} → onward r t s c ≢ 0
+      → RowOf (finished r (get_or t.held s 0 + 1) (onward r t s c)) lent n (get_or t.held s 0 + 1) (onward r t s c) v t u m x → Place r lent s c v n t u m x
 
 -- ---- one row
 
 -- the first c entries of row s, from `row₀`, n₀ and t₀
 pub data Filling (r : Rules) (lent s : ℕ) (via row₀ : List ℕ) (n₀ : ℕ) (t₀ : Others) : ℕ → List ℕ → ℕ → Others → Type 0 where
   begin : Filling r lent s via row₀ n₀ t₀ 0 row₀ n₀ t₀
-  next : {c n m e : ℕ} {row : List ℕ} {t u : Others} → Filling r lent s via row₀ n₀ t₀ c row n t → Place r lent s c (get_or via c 0) n t u (placed.Entry e m)
+  next : {c n m e : ℕ} {row : List ℕ} {t u : Others} → Filling r lent s via row₀ n₀ t₀ c row n t → Place r lent s c (get_or via c 0) n t u m (Some e)
       → Filling r lent s via row₀ n₀ t₀ (c + 1) (set row c e) m u
 
 -- the whole row, or as far as there is room
-pub data RowFilled (r : Rules) (lent s : ℕ) (via row₀ : List ℕ) (n₀ : ℕ) (t₀ : Others) (row : List ℕ) (u : Others) : Filled → Type 0 where
-  whole : {m : ℕ} → Filling r lent s via row₀ n₀ t₀ 256 row m u → RowFilled r lent s via row₀ n₀ t₀ row u (filled.Rows m)
-  short : {c n : ℕ} {t : Others} → c < 256 → Filling r lent s via row₀ n₀ t₀ c row n t → Place r lent s c (get_or via c 0) n t u placed.Full
-      → RowFilled r lent s via row₀ n₀ t₀ row u filled.Full
+pub data RowFilled (r : Rules) (lent s : ℕ) (via row₀ : List ℕ) (n₀ : ℕ) (t₀ : Others) (row : List ℕ) (u : Others) (m : ℕ) : Option (Unit {0}) → Type 0 where
+  whole : Filling r lent s via row₀ n₀ t₀ 256 row m u → RowFilled r lent s via row₀ n₀ t₀ row u m (Some tt)
+  short : {c n : ℕ} {t : Others} → c < 256 → Filling r lent s via row₀ n₀ t₀ c row n t → Place r lent s c (get_or via c 0) n t u m None
+      → RowFilled r lent s via row₀ n₀ t₀ row u m None
 
 -- the byte c leads from row s to row e, by falls
 pub record Leads (goto fall : List ℕ) (c s e : ℕ) : Type 0 where
@@ -147,9 +163,14 @@ pub record RowsUsed (lent n : ℕ) (t : Others) : Type 0 where
   pub live_room : row_words * lent ≤ length t.live
   pub out_room : row_words * lent ≤ length t.out
 
+-- what each step relies on and keeps: the book keeps its limits, the rows have room, and they are in chains
+pub record Ready (r : Rows) : Type 0 where
+  pub within : Within r.book.now
+  pub room : RowsUsed r.lent r.used (others_of r)
+  pub chained : Chained r.chains (chain_at r.fall.now r.live.now) r.used
+
 -- row s is in hand: no row holds more than one byte more than it
-pub record InHand (lent n s : ℕ) (t : Others) : Type 0 where
-  pub room : RowsUsed lent n t
+pub record InHand (n s : ℕ) (t : Others) : Type 0 where
   pub row : s < n
   pub short_held : get_or t.held s 0 ≤ most_symbols
   pub rising : Rising t.held n (get_or t.held s 0 + 1)
@@ -169,7 +190,7 @@ pub record Sane (lent n : ℕ) (goto : List ℕ) (t : Others) : Type 0 where
   pub room : RowsUsed lent n t
   pub rows : RowsOk n t
   pub goto_room : 256 * lent ≤ length goto
-  pub entries : (j : ℕ) → IsEntry n (get_or goto j 0)
+  pub entries : All (IsEntry n) goto
   pub last : (c : ℕ) → c < 256 → get_or goto c 0 ≢ no_entry
 
 -- the part of goto for row s, and goto with another row there
@@ -180,11 +201,11 @@ abbrev pub with_row : List ℕ → ℕ → List ℕ → List ℕ
 with_row goto s row = take (256 * s) goto ++ (row ++ drop 256 (drop (256 * s) goto))
 
 -- row s filled in its place, where `via` is the complete row of its fall
-pub record RowBuilt (r : Rules) (lent n s : ℕ) (goto : List ℕ) (t : Others) (goto' : List ℕ) (u : Others) (x : Filled) : Type 0 where
+pub record RowBuilt (r : Rules) (lent n s : ℕ) (goto : List ℕ) (t : Others) (goto' : List ℕ) (u : Others) (m : ℕ) (x : Option (Unit {0})) : Type 0 where
   pub via : List ℕ
   pub row : List ℕ
   pub leads : (c : ℕ) → c < 256 → Leads goto t.fall c (get_or t.fall s 0) (get_or via c 0)
-  pub filled_row : RowFilled r lent s via (row_of goto s) n t row u x
+  pub filled_row : RowFilled r lent s via (row_of goto s) n t row u m x
   pub put : goto' ≡ with_row goto s row
 
 -- ---- the whole
@@ -192,26 +213,22 @@ pub record RowBuilt (r : Rules) (lent n s : ℕ) (goto : List ℕ) (t : Others) 
 -- the first s rows, whole, from goto₀ and t₀ with row 0
 pub data Building (r : Rules) (lent : ℕ) (goto₀ : List ℕ) (t₀ : Others) : ℕ → List ℕ → ℕ → Others → Type 0 where
   start : Building r lent goto₀ t₀ 0 goto₀ 1 t₀
-  grow : {s n m : ℕ} {goto goto' : List ℕ} {t u : Others} → Building r lent goto₀ t₀ s goto n t → s < n → RowBuilt r lent n s goto t goto' u (filled.Rows m)
+  grow : {s n m : ℕ} {goto goto' : List ℕ} {t u : Others} → Building r lent goto₀ t₀ s goto n t → s < n → RowBuilt r lent n s goto t goto' u m (Some tt)
       → Building r lent goto₀ t₀ (s + 1) goto' m u
 
 -- every row, or as far as there is room
-pub data AllFilled (r : Rules) (lent : ℕ) (goto₀ : List ℕ) (t₀ : Others) (goto' : List ℕ) (u : Others) : Filled → Type 0 where
-  all : {n : ℕ} → Building r lent goto₀ t₀ n goto' n u → AllFilled r lent goto₀ t₀ goto' u (filled.Rows n)
-  stuck : {s n : ℕ} {goto : List ℕ} {t : Others} → Building r lent goto₀ t₀ s goto n t → s < n → RowBuilt r lent n s goto t goto' u filled.Full
-      → AllFilled r lent goto₀ t₀ goto' u filled.Full
+pub data EveryRow (r : Rules) (lent : ℕ) (goto₀ : List ℕ) (t₀ : Others) (goto' : List ℕ) (u : Others) (m : ℕ) : Option (Unit {0}) → Type 0 where
+  all : Building r lent goto₀ t₀ m goto' m u → EveryRow r lent goto₀ t₀ goto' u m (Some tt)
+  stuck : {s n : ℕ} {goto : List ℕ} {t : Others} → Building r lent goto₀ t₀ s goto n t → s < n → RowBuilt r lent n s goto t goto' u m None
+      → EveryRow r lent goto₀ t₀ goto' u m None
 
--- the rows lent, and the tables with every entry 0
-abbrev pub rows_lent : List ℕ → Others → ℕ
-rows_lent goto t = lent (five_of goto t)
-
-abbrev pub zero_others : Others → Others
-zero_others t = others (zeros t.fall) (zeros t.held) (zeros t.live) (zeros t.out)
+-- the same of the five tables, from a to b: the rows used, or none where there is no room
+pub data AllFilled (r : Rules) (lent : ℕ) (a b : Five) : Option ℕ → Type 0 where
+  filled : {n : ℕ} → EveryRow r lent a.goto (sides a) b.goto (sides b) n (Some tt) → AllFilled r lent a b (Some n)
+  crowded : {n : ℕ} → EveryRow r lent a.goto (sides a) b.goto (sides b) n None → AllFilled r lent a b None
 
 -- a build: every row from tables of zeros, or no room and every entry 0
-pub data Makes (r : Rules) (goto : List ℕ) (t : Others) : List ℕ → Others → Built → Type 0 where
-  rows : {n : ℕ} {goto' : List ℕ} {u : Others} → rows_lent goto t ≢ 0 → AllFilled r (rows_lent goto t) (zeros goto) (zero_others t) goto' u (filled.Rows n)
-      → Makes r goto t goto' u (built.Rows n)
-  empty : rows_lent goto t ≡ 0 → Makes r goto t (zeros goto) (zero_others t) (built.NoRoom 0)
-  refused : {goto' : List ℕ} {u : Others} → rows_lent goto t ≢ 0 → AllFilled r (rows_lent goto t) (zeros goto) (zero_others t) goto' u filled.Full
-      → Makes r goto t (zeros goto) (zero_others t) (built.NoRoom (rows_lent goto t))
+pub data Makes (r : Rules) (old : Five) : Five → Built → Type 0 where
+  made_all : {n : ℕ} {b : Five} → lent old ≢ 0 → AllFilled r (lent old) (zeroed old) b (Some n) → Makes r old b (Ok n)
+  empty : lent old ≡ 0 → Makes r old (zeroed old) (Err (NoRoom 0))
+  refused : {b : Five} → lent old ≢ 0 → AllFilled r (lent old) (zeroed old) b None → Makes r old (zeroed old) (Err (NoRoom (lent old)))

@@ -3,17 +3,19 @@
 // build every entry lent is 1. Then it widens old tables, and writes the number, the value and all words.
 #![tactic(auto)]
 
-ghost use Rattle.std.specs.Prelude.{◌≤◌, length};
+ghost use Rattle.std.specs.Prelude.{◌≤◌};
+
+use lent::{Buffers, Machine};
+use numbered::Numbered;
+use promised::BuildRefusal;
 
 fn main() {
     book_a(b"\x52\x00\x02\x00a");
     book_x(b"\x50\x00\x1aabcdefghijklmnopqrstuvwxyz\x52\x00\x08\x00a\x01\x00\x00b\x01\x00");
-    lend(
+    lend_rows(
         b"book y, 9 rows lent",
         b"\x50\x00\x1aabcdefghijklmnopqrstuvwxyz\x52\x00\x04\x01\x00\x001\x52\x00\x06\x00a\x01\x00\x00c\x52\x00\x04\x00a\x00b",
-        2304,
         9,
-        36,
     );
     digits(
         b"\x50\x00\x100123456789abcdef\x50\x00\x0a0123456789\x52\x00\x04\x01\x00\x01\x01\x52\x00\x04\x01\x01\x00a",
@@ -27,16 +29,16 @@ fn main() {
 
 // The rule `a`: two rows.
 fn book_a(bytes: &[u8]) {
-    lend(b"rule a, 9 rows lent", bytes, 2304, 9, 36);
-    lend(b"rule a, 2 rows lent", bytes, 512, 2, 8);
-    lend(b"rule a, 1 row lent", bytes, 256, 1, 4);
+    lend_rows(b"rule a, 9 rows lent", bytes, 9);
+    lend_rows(b"rule a, 2 rows lent", bytes, 2);
+    lend_rows(b"rule a, 1 row lent", bytes, 1);
     lend(b"rule a, no row lent", bytes, 255, 1, 4);
 }
 
 // Book x: nine rows.
 fn book_x(bytes: &[u8]) {
-    lend(b"book x, 10 rows lent", bytes, 2560, 10, 40);
-    lend(b"book x, 9 rows lent", bytes, 2304, 9, 36);
+    lend_rows(b"book x, 10 rows lent", bytes, 10);
+    lend_rows(b"book x, 9 rows lent", bytes, 9);
     lend(b"book x, 8 rows lent", bytes, 2303, 9, 36);
     lend(b"book x, 9 rows lent but 8 of out", bytes, 2304, 9, 32);
     lend(
@@ -57,8 +59,8 @@ fn book_x(bytes: &[u8]) {
 
 // A hexadecimal and a decimal digit; a decimal digit and a: five rows, as a digit opens both rules and a letter the first.
 fn digits(bytes: &[u8]) {
-    lend(b"digits, 9 rows lent", bytes, 2304, 9, 36);
-    lend(b"digits, 4 rows lent", bytes, 1024, 4, 16);
+    lend_rows(b"digits, 9 rows lent", bytes, 9);
+    lend_rows(b"digits, 4 rows lent", bytes, 4);
 }
 
 // So many rules of one byte each, in turn a, b and c: a row for each of the three, in which every third rule is live and ends.
@@ -66,30 +68,26 @@ fn many(label: &[u8], count: usize)
     requires { count ≤ 257 }
 {
     let mut bytes = [0u8; 1285];
-    let mut k: usize = 0;
-    while k < count {
+    for k in 0..count {
         bytes[5 * k] = 0x52;
         bytes[5 * k + 2] = 2;
-        bytes[5 * k + 4] = 0x61 + (k % 3) as u8;
-        k += 1;
+        bytes[5 * k + 4] = b'a' + (k % 3) as u8;
     }
-    lend(label, &bytes[0..5 * count], 2304, 9, 36);
+    lend_rows(label, &bytes[..5 * count], 9);
 }
 
 // Books that the reader refuses.
 fn refused() {
-    lend(b"empty book", b"", 256, 1, 4);
-    lend(b"cut header", b"\x52\x00", 256, 1, 4);
-    lend(b"other tag", b"\x52\x00\x02\x00a\x51\x00\x00", 256, 1, 4);
-    lend(b"empty picture", b"\x50\x00\x00", 256, 1, 4);
-    lend(b"odd rule", b"\x52\x00\x03\x02a\x00", 256, 1, 4);
-    lend(b"kind 2", b"\x52\x00\x02\x02a", 256, 1, 4);
-    lend(
+    lend_rows(b"empty book", b"", 1);
+    lend_rows(b"cut header", b"\x52\x00", 1);
+    lend_rows(b"other tag", b"\x52\x00\x02\x00a\x51\x00\x00", 1);
+    lend_rows(b"empty picture", b"\x50\x00\x00", 1);
+    lend_rows(b"odd rule", b"\x52\x00\x03\x02a\x00", 1);
+    lend_rows(b"kind 2", b"\x52\x00\x02\x02a", 1);
+    lend_rows(
         b"no picture yet, then kind 2",
         b"\x52\x00\x06\x00a\x01\x00\x02a",
-        256,
         1,
-        4,
     );
 }
 
@@ -106,17 +104,21 @@ fn widened() {
 fn widen_into(label: &[u8], lives: usize, outs: usize)
     requires { (lives ≤ 16) × (outs ≤ 16) }
 {
-    let old_live = [5u64; 2];
-    let old_out = [6u64; 3];
     let mut live = [1u64; 16];
     let mut out = [1u64; 16];
-    show_widened(
-        label,
-        &old_live,
-        &old_out,
-        &mut live[0..lives],
-        &mut out[0..outs],
-    );
+    let answer = widen::widen(&[5; 2], &[6; 3], &mut live[..lives], &mut out[..outs]);
+    write_answer(label, &answer);
+    io::write_all(1, b"\nlive");
+    sets(&live[..lives], 4);
+    io::write_all(1, b"out");
+    sets(&out[..outs], 4);
+}
+
+// Builds with room for so many rows.
+fn lend_rows(label: &[u8], bytes: &[u8], rows: usize)
+    requires { rows ≤ 10 }
+{
+    lend(label, bytes, 256 * rows, rows, 4 * rows);
 }
 
 // Builds with so many entries of goto, `outs` words of out, and `rows` of the other tables.
@@ -128,177 +130,75 @@ fn lend(label: &[u8], bytes: &[u8], entries: usize, rows: usize, outs: usize)
     let mut held = [1u8; 10];
     let mut live = [1u64; 40];
     let mut out = [1u64; 40];
-    show(
-        label,
-        bytes,
-        &mut goto[0..entries],
-        &mut fall[0..rows],
-        &mut held[0..rows],
-        &mut live[0..4 * rows],
-        &mut out[0..outs],
-    );
+    let mut buffers = Buffers {
+        goto: &mut goto[..entries],
+        fall: &mut fall[..rows],
+        held: &mut held[..rows],
+        live: &mut live[..4 * rows],
+        out: &mut out[..outs],
+    };
+    let built = build::build(bytes, &mut buffers);
+    write(label, built, &buffers.machine(0));
 }
 
 // ---- what is written
 
-fn show(
-    label: &[u8],
-    bytes: &[u8],
-    goto: &mut [u16],
-    fall: &mut [u16],
-    held: &mut [u8],
-    live: &mut [u64],
-    out: &mut [u64],
-) {
-    let built = build::build(bytes, goto, fall, held, live, out);
-    write(label, built, goto, fall, held, live, out);
-}
-
-fn write(
-    label: &[u8],
-    built: promised::Built,
-    goto: &[u16],
-    fall: &[u16],
-    held: &[u8],
-    live: &[u64],
-    out: &[u64],
-) {
-    io::write_all(1, label);
-    io::write_all(1, b":");
-    print(built.number() as u64);
-    print(built.value() as u64);
+fn write(label: &[u8], built: Result<usize, BuildRefusal>, tables: &Machine<'_>) {
+    write_answer(label, &built);
     io::write_all(1, b" |");
-    print(some16(goto) as u64);
-    print(some16(fall) as u64);
-    print(some8(held) as u64);
-    print(some64(live) as u64);
-    print(some64(out) as u64);
+    print(some(tables.goto));
+    print(some(tables.fall));
+    print(some(tables.held));
+    print(some(tables.live));
+    print(some(tables.out));
     io::write_all(1, b"\n");
-    if built.number() == 0 {
-        let rows = built.value();
+    if let Ok(rows) = built {
         io::write_all(1, b"held");
-        row8(held, rows);
+        row(tables.held, rows);
         io::write_all(1, b"fall");
-        row16(fall, rows);
+        row(tables.fall, rows);
         io::write_all(1, b"live");
-        row64(live, rows);
+        sets(tables.live, rows);
         io::write_all(1, b"out");
-        row64(out, rows);
+        sets(tables.out, rows);
     }
 }
 
-fn show_widened(
-    label: &[u8],
-    old_live: &[u64],
-    old_out: &[u64],
-    live: &mut [u64],
-    out: &mut [u64],
-) {
-    let answer = widen::widen(old_live, old_out, live, out);
+fn write_answer<A: Numbered>(label: &[u8], answer: &A) {
     io::write_all(1, label);
     io::write_all(1, b":");
     print(answer.number() as u64);
-    print(answer.value() as u64);
-    io::write_all(1, b"\nlive");
-    row64(live, 4);
-    io::write_all(1, b"out");
-    row64(out, 4);
+    print(answer.value());
 }
 
+// By hand, since `print!` takes the runtime, which would go through every function here.
 fn print(n: u64) {
     io::write_all(1, b" ");
     io::print_decimal(1, n);
 }
 
-fn small(x: u8) -> u64 {
-    x as u64
-}
-
-fn wide(x: u16) -> u64 {
-    x as u64
-}
-
 // How many entries are not 0.
-fn some8(a: &[u8]) -> usize
-    ensures { result ≤ length a.now }
-{
-    let mut some: usize = 0;
-    let mut i: usize = 0;
-    while i < a.len() {
-        if a[i] != 0 {
-            some += 1;
-        }
-        i += 1;
-    }
-    some
+fn some<T: Copy + Default + PartialEq>(entries: &[T]) -> u64 {
+    entries.iter().filter(|x| **x != T::default()).count() as u64
 }
 
-fn some16(a: &[u16]) -> usize
-    ensures { result ≤ length a.now }
-{
-    let mut some: usize = 0;
-    let mut i: usize = 0;
-    while i < a.len() {
-        if a[i] != 0 {
-            some += 1;
-        }
-        i += 1;
-    }
-    some
-}
-
-fn some64(a: &[u64]) -> usize
-    ensures { result ≤ length a.now }
-{
-    let mut some: usize = 0;
-    let mut i: usize = 0;
-    while i < a.len() {
-        if a[i] != 0 {
-            some += 1;
-        }
-        i += 1;
-    }
-    some
-}
-
-// The first n entries, in a line; of the sets four words each, with a comma between two sets.
-fn row8(a: &[u8], n: usize) {
-    let mut i: usize = 0;
-    while i < a.len() {
-        if n <= i {
-            break;
-        }
-        print(small(a[i]));
-        i += 1;
+// The first entries, in a line.
+fn row<T: Copy + Into<u64>>(entries: &[T], rows: usize) {
+    for x in entries.iter().take(rows) {
+        print((*x).into());
     }
     io::write_all(1, b"\n");
 }
 
-fn row16(a: &[u16], n: usize) {
-    let mut i: usize = 0;
-    while i < a.len() {
-        if n <= i {
-            break;
-        }
-        print(wide(a[i]));
-        i += 1;
-    }
-    io::write_all(1, b"\n");
-}
-
-fn row64(a: &[u64], n: usize) {
-    let mut i: usize = 0;
-    while i < a.len() {
-        if n <= i / 4 {
-            break;
-        }
+// The first sets, in a line: four words each, with a comma between two sets.
+fn sets(words: &[u64], rows: usize) {
+    for (i, set) in words.chunks(4).take(rows).enumerate() {
         if i != 0 {
-            if i % 4 == 0 {
-                io::write_all(1, b",");
-            }
+            io::write_all(1, b",");
         }
-        print(a[i]);
-        i += 1;
+        for word in set {
+            print(*word);
+        }
     }
     io::write_all(1, b"\n");
 }

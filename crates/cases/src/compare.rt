@@ -1,250 +1,156 @@
 // Reads and builds compared: the answer, and every place of every buffer lent.
-use crate::fitting::Fits;
-use crate::judge::Judged;
-use crate::leaf::{at8, at16, at64, plus, up_to};
-use crate::report::{count, expect, pick};
-use crate::standing::{ended, held_at, rules_at};
-use crate::{fitting, judge, record, report, standing};
+ghost use Rattle.std.specs.Prelude.{◌≤◌};
+
+use crate::fitting::{self, Fits};
+use crate::judge::{self, Fault, Sound};
+use crate::record;
+use crate::report::Run;
+use crate::standing::{Rows, Standing};
+use drawn::{Key, Reason, Refused, at, part, rows_lent};
+use lent::{Buffers, Machine};
 
 // The book in the bytes. Of one with rules of at most 8 symbols the tables are built too.
-pub fn book(run: &mut [u64; 256], bytes: &[u8], key: u64) {
-    let mut fields = [0u64; 640];
-    let judged = judge::judge(bytes, &mut fields);
-    read(run, seen_of(bytes, &fields, judged), judged);
-    if fitting::is_short(&fields, judged.rules) {
-        build(run, bytes, &fields, judged, key);
+pub fn book(run: &mut Run, bytes: &[u8], key: Key) {
+    let judged = judge::judge(bytes);
+    read(run, bytes, &judged);
+    match judged {
+        Ok(sound) if !fitting::is_short(&sound) => {}
+        Ok(sound) => build(run, bytes, key, Ok(&sound)),
+        Err(fault) => build(run, bytes, key, Err(fault.refused)),
     }
 }
 
-// Whether a read's number, value and record are those that are meant, and whether a byte is in two pictures.
-#[derive(Drop)]
-struct Seen {
-    number: bool,
-    value: bool,
-    record: bool,
-    sharing: bool,
-}
-
-fn seen_of(bytes: &[u8], fields: &[u64; 640], judged: Judged) -> Seen {
+// The number, value and record of a read.
+fn read(run: &mut Run, bytes: &[u8], judged: &Result<Sound<'_>, Fault>) {
     let got = reader::read(bytes);
-    let answer = got.answer;
-    let kept = got.book;
-    let sets = kept.picture;
-    Seen {
-        number: answer.number() == judged.number,
-        value: answer.value() == judged.value,
-        record: record::is_record(bytes, fields, judged, kept),
-        sharing: record::is_sharing(&sets),
+    let (sound, answer) = match judged {
+        Ok(sound) => (*sound, Ok(0)),
+        Err(fault) => (Sound::nothing(bytes), Err(fault.refused)),
+    };
+    let number = run.differences.compare(&got.answer, answer, b"a read");
+    run.read.one(number);
+    if 64 < sound.rules() {
+        run.large_sound.one();
     }
-}
-
-fn read(run: &mut [u64; 256], is: Seen, judged: Judged) {
-    count(run, plus(report::READ, judged.number), 1);
-    if 64 < judged.rules {
-        count(run, report::LARGE_SOUND, 1);
+    if record::is_sharing(&got.book.picture) {
+        run.sharing.one();
     }
-    if is.sharing {
-        count(run, report::SHARING, 1);
+    if judged.is_err_and(|fault| 1 < fault.amiss) {
+        run.several.one();
     }
-    if 1 < judged.amiss {
-        count(run, report::SEVERAL, 1);
-    }
-    expect(run, is.number, b"number of a read");
-    expect(run, is.value, b"value of a read");
-    expect(run, is.record, b"record of a read");
+    let is_record = record::is_record(&sound, &got.book);
+    run.differences.expect(is_record, b"record", b"a read");
 }
 
 // ---- a build
 
-// The buffers, of which the first so many places were lent, and the answer.
+// Room for some rows, mostly for all, in buffers of odd lengths.
 #[derive(Clone, Copy)]
-struct Tables {
-    goto: [u16; 16384],
-    fall: [u16; 64],
-    held: [u8; 64],
-    live: [u64; 256],
-    out: [u64; 256],
-    g: usize,
-    f: usize,
-    h: usize,
-    l: usize,
-    o: usize,
-    number: usize,
-    value: usize,
+struct Room {
+    goto: usize,
+    fall: usize,
+    held: usize,
+    live: usize,
+    out: usize,
+    ghost within: { (goto ≤ 16384) × (fall ≤ 64) × (held ≤ 64) × (live ≤ 256) × (out ≤ 256) },
 }
 
-// Lends room for some rows, mostly for all, in buffers of odd lengths, each entry 1.
-fn built(bytes: &[u8], key: u64) -> Tables {
-    let rows = if pick(key, 50, 4) == 0 {
-        pick(key, 51, 20)
-    } else {
-        60
-    };
-    let g = up_to(plus(256 * (rows % 64), pick(key, 52, 600)), 16384);
-    let f = up_to(plus(rows, pick(key, 53, 3)), 64);
-    let h = up_to(plus(rows, pick(key, 54, 3)), 64);
-    let l = up_to(plus(4 * (rows % 64), pick(key, 55, 12)), 256);
-    let o = up_to(plus(4 * (rows % 64), pick(key, 56, 12)), 256);
+impl Room {
+    fn of(key: Key) -> Room {
+        let rows = if key.is_first(50, 4) {
+            key.pick(51, 20)
+        } else {
+            60
+        };
+        Room {
+            goto: (256 * rows + key.pick(52, 600)).min(16384),
+            fall: (rows + key.pick(53, 3)).min(64),
+            held: (rows + key.pick(54, 3)).min(64),
+            live: (4 * rows + key.pick(55, 12)).min(256),
+            out: (4 * rows + key.pick(56, 12)).min(256),
+        }
+    }
+}
+
+// Each entry that is lent is 1 before.
+fn build(run: &mut Run, bytes: &[u8], key: Key, judged: Result<&Sound<'_>, Refused>) {
+    let room = Room::of(key);
     let mut goto = [1u16; 16384];
     let mut fall = [1u16; 64];
     let mut held = [1u8; 64];
     let mut live = [1u64; 256];
     let mut out = [1u64; 256];
-    let built = build::build(
-        bytes,
-        &mut goto[0..g],
-        &mut fall[0..f],
-        &mut held[0..h],
-        &mut live[0..l],
-        &mut out[0..o],
-    );
-    Tables {
-        goto,
-        fall,
-        held,
-        live,
-        out,
-        g,
-        f,
-        h,
-        l,
-        o,
-        number: built.number(),
-        value: built.value(),
-    }
-}
-
-// The answer that is meant, and whether the tables are as they are to be.
-#[derive(Drop)]
-struct Meant {
-    number: usize,
-    value: usize,
-    is_same: bool,
-}
-
-fn build(run: &mut [u64; 256], bytes: &[u8], fields: &[u64; 640], judged: Judged, key: u64) {
-    let t = built(bytes, key);
-    let meant = if judged.number == 0 {
-        sound(t, bytes, fields, judged.rules)
-    } else {
-        Meant {
-            number: judged.number,
-            value: judged.value,
-            is_same: all_are(t, 0, 1),
-        }
+    let mut buffers = Buffers {
+        goto: &mut goto[..room.goto],
+        fall: &mut fall[..room.fall],
+        held: &mut held[..room.held],
+        live: &mut live[..room.live],
+        out: &mut out[..room.out],
     };
-    told(run, meant, t.number, t.value, judged.rules);
-}
-
-fn told(run: &mut [u64; 256], meant: Meant, number: usize, value: usize, rules: usize) {
-    count(run, plus(report::BUILT, meant.number), 1);
-    expect(run, number == meant.number, b"number of a build");
-    expect(run, value == meant.value, b"value of a build");
-    expect(run, meant.is_same, b"tables of a build");
-    if meant.number == 0 {
-        count(run, report::ROWS, meant.value);
-        if 64 < rules {
-            count(run, report::LARGE_BUILT, 1);
+    let built = build::build(bytes, &mut buffers);
+    let tables = buffers.machine(0);
+    let (meant, is_same) = match judged {
+        Ok(sound) => meant_of(&tables, sound),
+        Err(refused) => (Err(refused), all_are(&tables, 0, 1)),
+    };
+    if let (Ok(rows), Ok(sound)) = (meant, judged) {
+        run.rows.add(rows);
+        if 64 < sound.rules() {
+            run.large_built.one();
         }
     }
+    run.differences.expect(is_same, b"tables", b"a build");
+    let number = run.differences.compare(&built, meant, b"a build");
+    run.built.one(number);
 }
 
-// Whether every entry that was lent, from a row on, is v.
-fn all_are(t: Tables, row: usize, v: u8) -> bool {
-    let goto = t.goto;
-    let fall = t.fall;
-    let held = t.held;
-    let live = t.live;
-    let out = t.out;
-    all16(&goto, 256 * (row % 65536), t.g, v as u16)
-        && all16(&fall, row, t.f, v as u16)
-        && all8(&held, row, t.h, v as usize)
-        && all64(&live, 4 * (row % 65536), t.l, v as u64)
-        && all64(&out, 4 * (row % 65536), t.o, v as u64)
+// Whether every entry, from a row on, is v.
+fn all_are(tables: &Machine<'_>, row: usize, v: u64) -> bool {
+    let row = row % 65536;
+    are(tables.goto, 256 * row, v)
+        && are(tables.fall, row, v)
+        && are(tables.held, row, v)
+        && are(tables.live, 4 * row, v)
+        && are(tables.out, 4 * row, v)
 }
 
-fn all8(a: &[u8], from: usize, to: usize, v: usize) -> bool {
-    for i in from..to {
-        if at8(a, i) != v {
-            return false;
+// Whether every entry, from a place on, is v.
+fn are<T: Copy + Into<u64>>(entries: &[T], from: usize, v: u64) -> bool {
+    part(entries, from, entries.len()).iter().all(|x| {
+        let entry: u64 = (*x).into();
+        entry == v
+    })
+}
+
+// The answer that is meant for a sound book, and whether the tables are as they are to be.
+fn meant_of(tables: &Machine<'_>, sound: &Sound<'_>) -> (Result<usize, Refused>, bool) {
+    let room = rows_lent(tables);
+    let fits = Fits::of(sound);
+    match Rows::of(&fits, room, tables.goto) {
+        Some(rows) => {
+            let count = rows.all().len();
+            let is_same = rows.is_goto && is_rest(tables, &rows, &fits);
+            (Ok(count), is_same && all_are(tables, count, 0))
         }
-    }
-    true
-}
-
-fn all16(a: &[u16], from: usize, to: usize, v: u16) -> bool {
-    for i in from..to {
-        if at16(a, i) != v as usize {
-            return false;
+        None => {
+            let refused = Refused::at(Reason::FewRows, room);
+            (Err(refused), all_are(tables, 0, 0))
         }
-    }
-    true
-}
-
-fn all64(a: &[u64], from: usize, to: usize, v: u64) -> bool {
-    for i in from..to {
-        if at64(a, i) != v {
-            return false;
-        }
-    }
-    true
-}
-
-// ---- the rows of a sound book
-
-fn sound(t: Tables, bytes: &[u8], fields: &[u64; 640], rules: usize) -> Meant {
-    let room = up_to(up_to(up_to(t.g / 256, t.f), t.h), up_to(t.l / 4, t.o / 4));
-    let fit = fitting::fits_of(bytes, fields, rules);
-    let goto = t.goto;
-    let mut levels = [0u64; 2048];
-    let rows = standing::rows_of(&fit, &mut levels, room, &goto);
-    if room < rows.count {
-        return Meant {
-            number: 10,
-            value: room,
-            is_same: all_are(t, 0, 0),
-        };
-    }
-    Meant {
-        number: 0,
-        value: rows.count,
-        is_same: rows.is_goto && is_rest(t, &fit, &levels, rows.count) && all_are(t, rows.count, 0),
     }
 }
 
 // Whether fall, held, live and out are right in each row.
-fn is_rest(t: Tables, fit: &Fits, levels: &[u64; 2048], rows: usize) -> bool {
-    let fall = t.fall;
-    let held = t.held;
-    let live = t.live;
-    let out = t.out;
-    for r in 0..rows {
-        let length = held_at(levels, 32 * (r % 64));
-        if at8(&held, r) != length || at16(&fall, r) != standing::fall_of(levels, rows, r) {
-            return false;
-        }
-        if !is_sets(fit, levels, r, length, &live, &out) {
-            return false;
-        }
-    }
-    true
+fn is_rest(tables: &Machine<'_>, rows: &Rows, fits: &Fits) -> bool {
+    rows.all().iter().enumerate().all(|(r, standing)| {
+        rows.fall_of(standing) == Some(at(tables.fall, r)) && is_row(tables, fits, r, standing)
+    })
 }
 
-fn is_sets(
-    fit: &[u64],
-    levels: &[u64],
-    r: usize,
-    length: usize,
-    live: &[u64],
-    out: &[u64],
-) -> bool {
-    for w in 0..4usize {
-        let place = 4 * (r % 64) + w;
-        if at64(live, place) != rules_at(levels, r, w, length)
-            || at64(out, place) != ended(fit, levels, r, w)
-        {
-            return false;
-        }
-    }
-    true
+// Whether row r has the held length and the sets of its standing.
+fn is_row(tables: &Machine<'_>, fits: &Fits, r: usize, standing: &Standing) -> bool {
+    let held = standing.held();
+    let words = 4 * (r % 64);
+    usize::from(at(tables.held, r)) == held
+        && part(tables.live, words, words + 4) == standing.rules_at(held).words()
+        && part(tables.out, words, words + 4) == standing.ended(fits).words()
 }

@@ -1,82 +1,114 @@
-// Which bytes fit which symbols, of a book with rules of at most 8 symbols. A set of rules is four words, of 64 rules each. Kept are, for each byte and each
-// place of a rule, the rules whose symbol there the byte fits (place 8 * byte + symbol), all rules (place 2048), and for each length the rules of that
-// length (place 2048 + length). Word w of all these stands from 2064 * w on.
-use crate::judge::{RULE, body_of, size_of};
-use crate::leaf::{above, at8, at64, plus, put64, up_to};
+// Which bytes fit which symbols, of a book with rules of at most 8 symbols.
+ghost use Rattle.std.specs.Prelude.{◌<◌};
 
-pub type Fits = [u64; 8256];
+use crate::judge::Sound;
 
-pub const ALL: usize = 2048;
+// A set of rules: 64 to a word.
+#[derive(Clone, Copy, PartialEq, Eq)]
+pub struct Rules([u64; 4]);
 
-// The place of a set of bytes: those that fit other symbols than the byte before.
-pub const UNLIKE: usize = 2060;
+impl Rules {
+    pub fn none() -> Rules {
+        Rules([0; 4])
+    }
 
-pub fn fits_of(bytes: &[u8], fields: &[u64], count: usize) -> Fits {
-    let mut fit = [0u64; 8256];
-    for i in 0..8 * (count % 512) {
-        let length = size_of(fields, plus(RULE, i / 8)) / 2;
-        if i % 8 == 0 {
-            mark(&mut fit, ALL, i / 8);
-            mark(&mut fit, plus(ALL, length), i / 8);
+    pub fn words(&self) -> &[u64] {
+        &self.0
+    }
+
+    pub fn is_empty(&self) -> bool {
+        self.0 == [0; 4]
+    }
+
+    // Those and rule k.
+    fn with(self, k: usize) -> Rules {
+        let mut words = self.0;
+        words[k / 64 % 4] |= 1 << (k % 64);
+        Rules(words)
+    }
+
+    pub fn and(&self, other: &Rules) -> Rules {
+        let ([a, b, c, d], [e, f, g, h]) = (self.0, other.0);
+        Rules([a & e, b & f, c & g, d & h])
+    }
+
+    pub fn or(&self, other: &Rules) -> Rules {
+        let ([a, b, c, d], [e, f, g, h]) = (self.0, other.0);
+        Rules([a | e, b | f, c | g, d | h])
+    }
+}
+
+// For each byte and each place of a rule the rules whose symbol there the byte fits; all rules; and for each length the rules of that length.
+#[derive(Clone, Copy)]
+pub struct Fits {
+    byte: [[Rules; 8]; 256],
+    pub all: Rules,
+    pub length: [Rules; 9],
+    // The bytes that fit other symbols than the byte before.
+    is_unlike: [bool; 256],
+}
+
+impl Fits {
+    pub fn of(sound: &Sound<'_>) -> Fits {
+        let mut fits = Fits {
+            byte: [[Rules::none(); 8]; 256],
+            all: Rules::none(),
+            length: [Rules::none(); 9],
+            is_unlike: [true; 256],
+        };
+        for k in 0..sound.rules() {
+            fits.add(sound, k);
         }
-        if i % 8 < length {
-            mark_symbol(bytes, fields, i / 8, i % 8, &mut fit);
+        for byte in 1..256 {
+            let last = fits.byte[byte - 1];
+            let own = fits.byte[byte];
+            fits.is_unlike[byte] = own != last;
+        }
+        fits
+    }
+
+    // Rule k.
+    fn add(&mut self, sound: &Sound<'_>, k: usize) {
+        let rule = sound.rule(k);
+        let length = rule.len() / 2 % 9;
+        self.all = self.all.with(k);
+        self.length[length] = self.length[length].with(k);
+        for (j, symbol) in rule.chunks_exact(2).enumerate() {
+            self.add_symbol(members(sound, symbol), j % 8, k);
         }
     }
-    mark_unlike(&mut fit);
-    fit
-}
 
-// The bytes that fit symbol j of rule k: the symbol's second byte, or the picture's.
-fn mark_symbol(bytes: &[u8], fields: &[u64], k: usize, j: usize, fit: &mut Fits) {
-    let from = plus(body_of(fields, plus(RULE, k)), plus(j, j));
-    let second = plus(from, 1);
-    let is_byte = at8(bytes, from) == 0;
-    let p = at8(bytes, second);
-    let body = if is_byte { second } else { body_of(fields, p) };
-    let size = up_to(if is_byte { 1 } else { size_of(fields, p) }, 256);
-    for i in 0..size {
-        mark(fit, plus(8 * at8(bytes, plus(body, i)), j), k);
-    }
-}
-
-fn mark_unlike(fit: &mut Fits) {
-    for byte in 0..256usize {
-        if !is_like_last(fit, byte) {
-            mark(fit, UNLIKE, byte);
+    // Symbol j of rule k, which these bytes fit.
+    fn add_symbol(&mut self, bytes: &[u8], j: usize, k: usize)
+        requires { j < 8 }
+    {
+        for byte in bytes {
+            let mut places = self.byte[usize::from(*byte)];
+            places[j] = places[j].with(k);
+            self.byte[usize::from(*byte)] = places;
         }
     }
-}
 
-fn is_like_last(fit: &[u64], byte: usize) -> bool {
-    if byte == 0 {
-        return false;
+    // For each place of a rule the rules whose symbol there the byte fits.
+    pub fn rules_for(&self, byte: u8) -> [Rules; 8] {
+        self.byte[usize::from(byte)]
     }
-    for i in 0..32usize {
-        let place = plus(8 * (byte % 256), i % 8);
-        if word(fit, i / 8, place) != word(fit, i / 8, above(place, 8)) {
-            return false;
-        }
+
+    pub fn is_unlike(&self, byte: u8) -> bool {
+        self.is_unlike[usize::from(byte)]
     }
-    true
 }
 
-// Word w of the set at a place.
-pub fn word(fit: &[u64], w: usize, place: usize) -> u64 {
-    at64(fit, plus(2064 * (w % 4), place))
-}
-
-fn mark(fit: &mut Fits, place: usize, k: usize) {
-    let set = word(fit, k / 64, place) | (1u64 << (k % 64));
-    put64(fit, plus(2064 * (k / 64 % 4), place), set);
+// The bytes that fit a symbol: its second byte, or the picture's.
+fn members<'a>(sound: &Sound<'a>, symbol: &'a [u8]) -> &'a [u8] {
+    match symbol {
+        [0, second @ ..] => second,
+        [_, p] => sound.picture(usize::from(*p)),
+        _ => b"",
+    }
 }
 
 // Whether every rule has at most 8 symbols.
-pub fn is_short(fields: &[u64; 640], count: usize) -> bool {
-    for k in 0..count {
-        if 16 < size_of(fields, plus(RULE, k)) {
-            return false;
-        }
-    }
-    true
+pub fn is_short(sound: &Sound<'_>) -> bool {
+    (0..sound.rules()).all(|k| sound.rule(k).len() <= 16)
 }

@@ -1,150 +1,199 @@
-// The second reader: what the paper says of a book's bytes, field by field, with the place and the size of each body.
-use crate::leaf::{above, at8, at64, plus, put64};
+// The second reader: what the paper says of a book's bytes, field by field.
+ghost use Rattle.std.specs.Prelude.{◌<◌, ◌≤◌, IfSome, length};
 
-// The answer, what a sound book holds, and how many symbols of a refused rule are at fault.
+use drawn::{Reason, Refused, at, part};
+
+// Where a body begins and ends.
+#[derive(Clone, Copy, Default)]
+struct Body {
+    start: usize,
+    end: usize,
+}
+
+impl Body {
+    fn of(self, bytes: &[u8]) -> &[u8] {
+        part(bytes, self.start, self.end)
+    }
+}
+
+// Up to N bodies in their order.
 #[derive(Clone, Copy)]
-pub struct Judged {
-    pub number: usize,
-    pub value: usize,
-    pub pictures: usize,
-    pub rules: usize,
+struct Bodies<const N: usize> {
+    bodies: [Body; N],
+    count: usize,
+}
+
+impl<const N: usize> Bodies<N> {
+    fn none() -> Bodies<N> {
+        Bodies {
+            bodies: [Body { start: 0, end: 0 }; N],
+            count: 0,
+        }
+    }
+
+    fn push(&mut self, body: Body) {
+        if self.count < N {
+            self.bodies[self.count] = body;
+            self.count += 1;
+        }
+    }
+
+    // Body i, of the bytes; nothing past the last.
+    fn get<'a>(&self, bytes: &'a [u8], i: usize) -> &'a [u8] {
+        at(&self.bodies, i).of(bytes)
+    }
+}
+
+// What a sound book's bytes hold.
+#[derive(Clone, Copy)]
+pub struct Sound<'a> {
+    bytes: &'a [u8],
+    pictures: Bodies<16>,
+    rules: Bodies<256>,
+}
+
+impl<'a> Sound<'a> {
+    pub fn nothing(bytes: &'a [u8]) -> Sound<'a> {
+        Sound {
+            bytes,
+            pictures: Bodies::none(),
+            rules: Bodies::none(),
+        }
+    }
+
+    pub fn pictures(&self) -> usize {
+        self.pictures.count
+    }
+
+    pub fn rules(&self) -> usize {
+        self.rules.count
+    }
+
+    // The bytes of picture p.
+    pub fn picture(&self, p: usize) -> &'a [u8] {
+        self.pictures.get(self.bytes, p)
+    }
+
+    // The pairs of rule k.
+    pub fn rule(&self, k: usize) -> &'a [u8] {
+        self.rules.get(self.bytes, k)
+    }
+}
+
+// A refusal, and how many symbols of a refused rule are at fault.
+#[derive(Clone, Copy)]
+pub struct Fault {
+    pub refused: Refused,
     pub amiss: usize,
 }
 
-// Place 2p of the fields is where picture p's body begins, the next one its size; so for rule k from place 2 * (RULE + k) on.
-pub const RULE: usize = 32;
+impl From<Refused> for Fault {
+    fn from(refused: Refused) -> Fault {
+        Fault { refused, amiss: 0 }
+    }
+}
 
-pub fn judge(bytes: &[u8], fields: &mut [u64; 640]) -> Judged {
+// A field's tag, and where its body is.
+#[derive(Clone, Copy)]
+struct Field {
+    tag: u8,
+    body: Body,
+}
+
+// The field that begins at a place; nothing where it is cut short.
+fn field_at(bytes: &[u8], from: usize) -> Option<Field>
+    ensures { IfSome result (λ f. from < f.body.end) }
+{
+    let [tag, high, low, rest @ ..] = part(bytes, from, bytes.len()) else {
+        return None;
+    };
+    let size = usize::from(u16::from_be_bytes([*high, *low]));
+    if rest.len() < size {
+        return None;
+    }
+    let end = bytes.len() - (rest.len() - size);
+    let body = Body {
+        start: end - size,
+        end,
+    };
+    Some(Field { tag: *tag, body })
+}
+
+pub fn judge(bytes: &[u8]) -> Result<Sound<'_>, Fault> {
+    let mut sound = Sound::nothing(bytes);
     let mut from = 0;
-    let mut p = 0;
-    let mut k = 0;
-    for _ in 0..bytes.len() {
-        if bytes.len() <= from {
-            break;
+    while from < bytes.len() {
+        let Some(field) = field_at(bytes, from) else {
+            return Err(Refused::at(Reason::Cut, from).into());
+        };
+        let body = field.body;
+        match field.tag {
+            0x50 => {
+                judge_picture(body.of(bytes), sound.pictures()).map_err(|why| Refused::at(
+                    why, from,
+                ))?;
+                sound.pictures.push(body);
+            }
+            0x52 => {
+                judge_rule(body.of(bytes), &sound, from)?;
+                sound.rules.push(body);
+            }
+            _ => return Err(Refused::at(Reason::OtherTag, from).into()),
         }
-        let found = fault(bytes, from, p, k);
-        if found.number != 0 {
-            return found;
-        }
-        let size = size_at(bytes, from);
-        let body = plus(from, 3);
-        let mut field = p;
-        if at8(bytes, from) == 0x50 {
-            p = plus(p, 1);
-        } else {
-            field = plus(RULE, k);
-            k = plus(k, 1);
-        }
-        put64(fields, plus(field, field), body as u64);
-        put64(fields, plus(plus(field, field), 1), size as u64);
-        from = plus(body, size);
+        from = body.end;
     }
-    if k == 0 {
-        return refused(9, bytes.len());
+    if sound.rules() == 0 {
+        return Err(Refused::at(Reason::NoRule, bytes.len()).into());
     }
-    Judged {
-        number: 0,
-        value: 0,
-        pictures: p,
-        rules: k,
-        amiss: 0,
-    }
+    Ok(sound)
 }
 
-fn refused(number: usize, value: usize) -> Judged {
-    Judged {
-        number,
-        value,
-        pictures: 0,
-        rules: 0,
-        amiss: 0,
-    }
-}
-
-// Where a field's body begins, and its size.
-pub fn body_of(fields: &[u64], field: usize) -> usize {
-    at64(fields, plus(field, field)) as usize
-}
-
-pub fn size_of(fields: &[u64], field: usize) -> usize {
-    at64(fields, plus(plus(field, field), 1)) as usize
-}
-
-fn size_at(bytes: &[u8], from: usize) -> usize {
-    256 * at8(bytes, plus(from, 1)) + at8(bytes, plus(from, 2))
-}
-
-// What the field at `from` is refused with, or the number 0.
-fn fault(bytes: &[u8], from: usize, p: usize, k: usize) -> Judged {
-    let size = size_at(bytes, from);
-    let body = plus(from, 3);
-    let tag = at8(bytes, from);
-    if bytes.len() < plus(body, size) {
-        refused(1, from)
-    } else if tag == 0x50 {
-        refused(picture_fault(bytes, body, size, p), from)
-    } else if tag != 0x52 {
-        refused(2, from)
-    } else if k == 256 {
-        refused(8, from)
-    } else if 128 < size {
-        refused(7, from)
-    } else if size == 0 || size % 2 == 1 {
-        refused(6, from)
+// Not a 17th, nor empty, and ascending.
+fn judge_picture(body: &[u8], pictures: usize) -> Result<(), Reason> {
+    if pictures == 16 {
+        Err(Reason::PictureMany)
+    } else if body.is_empty() || !body.windows(2).all(|two| two[0] < two[1]) {
+        Err(Reason::PictureBody)
     } else {
-        symbols_fault(bytes, body, size, p)
+        Ok(())
     }
 }
 
-// A 17th picture, or one that is empty or does not ascend.
-fn picture_fault(bytes: &[u8], body: usize, size: usize, p: usize) -> usize {
-    if p == 16 {
-        return 5;
-    }
-    if size == 0 {
-        return 3;
-    }
-    for i in 1..size {
-        if at8(bytes, plus(body, i)) <= at8(bytes, plus(body, above(i, 1))) {
-            return 3;
-        }
-    }
-    0
-}
-
-// All symbols from the last to the first, so that the first at fault is found last.
-fn symbols_fault(bytes: &[u8], body: usize, size: usize, p: usize) -> Judged {
-    let mut found = refused(0, 0);
-    let mut amiss = 0;
-    for i in 0..size / 2 {
-        let place = plus(body, above(size, plus(2, plus(i, i))));
-        let number = symbol_fault(at8(bytes, place), at8(bytes, plus(place, 1)), p);
-        if number != 0 {
-            amiss = plus(amiss, 1);
-            found = refused(number, place);
-        }
-    }
-    found.amiss = amiss;
-    found
-}
-
-// A byte, one of the first p pictures, or neither.
-fn symbol_fault(kind: usize, second: usize, p: usize) -> usize {
-    if kind == 0 || kind == 1 && second < p {
-        0
-    } else if kind == 1 {
-        18
+// Not a 257th, of 1 to 64 pairs, each of which is a symbol.
+fn judge_rule(body: &[u8], sound: &Sound<'_>, from: usize) -> Result<(), Fault> {
+    if sound.rules() == 256 {
+        Err(Refused::at(Reason::RuleMany, from).into())
+    } else if 128 < body.len() {
+        Err(Refused::at(Reason::RuleLong, from).into())
+    } else if body.is_empty() || body.len() % 2 == 1 {
+        Err(Refused::at(Reason::RuleBody, from).into())
     } else {
-        17
+        judge_symbols(body, sound.pictures(), from)
     }
 }
 
-pub fn is_member(bytes: &[u8], byte: usize, fields: &[u64], picture: usize) -> bool {
-    let body = body_of(fields, picture);
-    for i in 0..size_of(fields, picture) {
-        if at8(bytes, plus(body, i)) == byte {
-            return true;
+// The first symbol at fault counts.
+fn judge_symbols(body: &[u8], pictures: usize, from: usize) -> Result<(), Fault> {
+    let mut found = Ok(());
+    let mut amiss = 0usize;
+    for (j, symbol) in body.chunks_exact(2).enumerate() {
+        if let Err(why) = judge_symbol(symbol, pictures) {
+            amiss = amiss.wrapping_add(1);
+            if amiss == 1 {
+                let value = from.wrapping_add(3).wrapping_add(j).wrapping_add(j);
+                found = Err(Refused { why, value });
+            }
         }
     }
-    false
+    found.map_err(|refused| Fault { refused, amiss })
+}
+
+// A byte, one of the first pictures, or neither.
+fn judge_symbol(symbol: &[u8], pictures: usize) -> Result<(), Reason> {
+    match symbol {
+        [0, _] => Ok(()),
+        [1, p] if usize::from(*p) < pictures => Ok(()),
+        [1, _] => Err(Reason::UndefinedPicture),
+        _ => Err(Reason::UnknownKind),
+    }
 }

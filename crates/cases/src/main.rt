@@ -7,65 +7,43 @@ mod compare;
 mod draw;
 mod fitting;
 mod judge;
-mod leaf;
 mod record;
 mod report;
 mod standing;
 
-use leaf::first;
-use report::{count, pick, say, say_numbers};
+use draw::{Kind, Plan};
+use drawn::Key;
+use report::Run;
 
 const BOOKS: usize = 4000;
 
 fn main() {
-    let mut run = [0u64; 256];
+    let mut run = Run::default();
     for number in 0..BOOKS {
         one(&mut run, number);
     }
-    tell(&run);
+    run.tell();
 }
 
 // The book of a number; one in three is spoiled, of the large ones one in eight.
-fn one(run: &mut [u64; 256], number: usize) {
-    leaf::put64(run, report::NUMBER, number as u64);
-    let key = pick(number as u64, 0, 1152921504606846976) as u64;
-    let plan = draw::plan_of(number, key);
-    if plan.kind == draw::LARGE {
-        count(run, report::LARGE, 1);
+fn one(run: &mut Run, number: usize) {
+    run.differences.book = number;
+    let key = Key::of_book(number);
+    let plan = Plan::of(number, key);
+    let often = match plan.kind {
+        Kind::Large => {
+            run.large.one();
+            8
+        }
+        Kind::Digits => {
+            run.digits.one();
+            3
+        }
+        _ => 3,
+    };
+    let mut page = draw::book(key, &plan);
+    if key.is_first(7, often) {
+        draw::spoil(&mut page, key);
     }
-    if plan.kind == draw::DIGITS {
-        count(run, report::DIGITS, 1);
-    }
-    let mut bytes = [0u8; 2560];
-    let mut size = draw::book(&mut bytes, key, plan);
-    let often = if plan.kind == draw::LARGE { 8 } else { 3 };
-    if pick(key, 7, often) == 0 {
-        size = draw::spoil(&mut bytes, size, key);
-    }
-    compare::book(run, first(&bytes, size), key);
-}
-
-fn tell(run: &[u64; 256]) {
-    say_numbers(run, b"books read, by number", report::READ);
-    say(
-        run,
-        b"sound books with a byte in two pictures",
-        report::SHARING,
-    );
-    say(
-        run,
-        b"books drawn of decimal and hexadecimal digits",
-        report::DIGITS,
-    );
-    say(
-        run,
-        b"books refused for the first of several symbols",
-        report::SEVERAL,
-    );
-    say_numbers(run, b"books built, by number", report::BUILT);
-    say(run, b"books drawn of more than 64 rules", report::LARGE);
-    say(run, b"of these sound", report::LARGE_SOUND);
-    say(run, b"of these built", report::LARGE_BUILT);
-    say(run, b"rows compared", report::ROWS);
-    say(run, b"differences", report::DIFFERENCES);
+    compare::book(run, page.text(), key);
 }

@@ -1,82 +1,50 @@
-// The record of a read compared with the book's bytes: every place of it.
-use crate::judge::{Judged, RULE, body_of, is_member, size_of};
-use crate::leaf::{above, at8, medium, plus, small};
+// The record of a read compared with the bodies of the book's fields: every place of it.
+use crate::judge::Sound;
 use book::Book;
 
-pub fn is_record(bytes: &[u8], fields: &[u64], judged: Judged, got: Book) -> bool {
-    let symbols = got.symbols;
-    let lengths = got.lengths;
-    let sets = got.picture;
-    small(got.pictures) == judged.pictures
-        && got.rules == judged.rules
-        && is_symbols(bytes, fields, judged.rules, &symbols)
-        && is_lengths(fields, judged.rules, &lengths)
-        && is_sets(bytes, fields, judged.pictures, &sets)
+pub fn is_record(sound: &Sound<'_>, got: &Book) -> bool {
+    usize::from(got.pictures) == sound.pictures()
+        && got.rules == sound.rules()
+        && is_symbols(sound, &got.symbols)
+        && is_lengths(sound, &got.lengths)
+        && is_sets(sound, &got.picture)
 }
 
 // Each symbol as 256 times its kind plus its second byte, and 0 in the places that no rule uses.
-fn is_symbols(bytes: &[u8], fields: &[u64], count: usize, symbols: &[u16; 16384]) -> bool {
-    for i in 0..16384usize {
-        if medium(symbols[i]) != symbol(bytes, fields, count, i / 64, i % 64) {
-            return false;
-        }
-    }
-    true
+fn is_symbols(sound: &Sound<'_>, symbols: &[u16; 16384]) -> bool {
+    symbols.iter().enumerate().all(|(i, symbol)| *symbol == symbol_of(sound.rule(i / 64), i % 64))
 }
 
-fn symbol(bytes: &[u8], fields: &[u64], count: usize, k: usize, j: usize) -> usize {
-    let field = plus(RULE, k);
-    if count <= k || size_of(fields, field) <= plus(j, j) {
-        return 0;
+fn symbol_of(rule: &[u8], j: usize) -> u16 {
+    match rule.chunks_exact(2).nth(j) {
+        Some([kind, second]) => u16::from_be_bytes([*kind, *second]),
+        _ => 0,
     }
-    let place = plus(body_of(fields, field), plus(j, j));
-    256 * at8(bytes, place) + at8(bytes, plus(place, 1))
 }
 
-fn is_lengths(fields: &[u64], count: usize, lengths: &[u8; 256]) -> bool {
-    for k in 0..256usize {
-        let meant = if k < count {
-            size_of(fields, plus(RULE, k)) / 2
-        } else {
-            0
-        };
-        if small(lengths[k]) != meant {
-            return false;
-        }
-    }
-    true
+fn is_lengths(sound: &Sound<'_>, lengths: &[u8; 256]) -> bool {
+    lengths.iter().enumerate().all(|(k, length)| usize::from(*length) == sound.rule(k).len() / 2)
 }
 
 // Each byte with the set of just the pictures that list it.
-fn is_sets(bytes: &[u8], fields: &[u64], count: usize, sets: &[u16; 256]) -> bool {
-    for c in 0..256usize {
-        if medium(sets[c]) != set_of(bytes, fields, count, c) {
-            return false;
-        }
-    }
-    true
+fn is_sets(sound: &Sound<'_>, sets: &[u16; 256]) -> bool {
+    (0..=255u8)
+        .zip(sets)
+        .all(|(byte, set)| *set == set_of(sound, byte))
 }
 
-// 1 for picture 0, 2 for picture 1, 4 for picture 2, and so on: the sum of those that list the byte.
-fn set_of(bytes: &[u8], fields: &[u64], count: usize, byte: usize) -> usize {
+// The pictures that list the byte, picture p at bit p.
+fn set_of(sound: &Sound<'_>, byte: u8) -> u16 {
     let mut set = 0;
-    let mut worth = 1;
-    for p in 0..count {
-        if is_member(bytes, byte, fields, p) {
-            set = plus(set, worth);
+    for p in 0..16 {
+        if sound.picture(p).contains(&byte) {
+            set |= 1 << p;
         }
-        worth = plus(worth, worth);
     }
     set
 }
 
 // Whether a byte is in two pictures.
 pub fn is_sharing(sets: &[u16; 256]) -> bool {
-    for c in 0..256usize {
-        let set = medium(sets[c]);
-        if set & above(set, 1) != 0 {
-            return true;
-        }
-    }
-    false
+    sets.iter().any(|set| 1 < set.count_ones())
 }

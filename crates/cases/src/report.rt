@@ -1,104 +1,38 @@
-// The numbers that everything is drawn from, and how often things were compared.
-use crate::leaf::{above, at8, at64, plus, put64};
+// How often things were compared.
+use drawn::{ByNumber, Count, Differences};
 
-// Places of the counts. From the first two on the counts are by number.
-pub const READ: usize = 0;
-
-pub const BUILT: usize = 32;
-
-pub const ROWS: usize = 64;
-
-pub const DIFFERENCES: usize = 65;
-
-// The book at hand.
-pub const NUMBER: usize = 66;
-
-// Sound books with a byte in two pictures.
-pub const SHARING: usize = 67;
-
-// Books of decimal and hexadecimal digits.
-pub const DIGITS: usize = 68;
-
-// Books of more than 64 rules: drawn, sound, and built within the rows lent.
-pub const LARGE: usize = 69;
-
-pub const LARGE_SOUND: usize = 70;
-
-pub const LARGE_BUILT: usize = 71;
-
-// Books refused for a rule with several symbols at fault.
-pub const SEVERAL: usize = 72;
-
-// ---- what is drawn
-
-fn step(x: u64) -> u64 {
-    let a = x ^ (x << 13);
-    let b = a ^ (a >> 7);
-    b ^ (b << 17)
+#[derive(Clone, Copy, Default)]
+pub struct Run {
+    // Reads and builds by their numbers.
+    pub read: ByNumber,
+    pub built: ByNumber,
+    // Sound books with a byte in two pictures.
+    pub sharing: Count,
+    // Books of decimal and hexadecimal digits.
+    pub digits: Count,
+    // Books refused for a rule with several symbols at fault.
+    pub several: Count,
+    // Books of more than 64 rules: drawn, sound, and built within the rows lent.
+    pub large: Count,
+    pub large_sound: Count,
+    pub large_built: Count,
+    pub rows: Count,
+    pub differences: Differences,
 }
 
-fn scatter(x: u64) -> u64 {
-    let y = (x % 4294967296) * 2654435761;
-    step(y ^ (x >> 32))
-}
-
-// A key of its own for each place of a key. Its remainder by 4 is the first one's.
-pub fn key_of(key: u64, place: usize) -> u64 {
-    let begin = (place as u64 % 1000000 + 1) * 2654435761;
-    let end = scatter(scatter(std::num::wrapping_add_u64(key, begin)));
-    end / 4 * 4 + key % 4
-}
-
-// The number below n that a key has at a place.
-pub fn pick(key: u64, place: usize, n: usize) -> usize {
-    if n == 0 {
-        0
-    } else {
-        (key_of(key, place) >> 11) as usize % n
+impl Run {
+    pub fn tell(&self) {
+        self.read.say(b"books read, by number");
+        self.sharing.say(b"sound books with a byte in two pictures");
+        self.digits
+            .say(b"books drawn of decimal and hexadecimal digits");
+        self.several
+            .say(b"books refused for the first of several symbols");
+        self.built.say(b"books built, by number");
+        self.large.say(b"books drawn of more than 64 rules");
+        self.large_sound.say(b"of these sound");
+        self.large_built.say(b"of these built");
+        self.rows.say(b"rows compared");
+        self.differences.say();
     }
-}
-
-// The letters, ascending. A key has those from its remainder by 4 on, so that few letters make many overlaps.
-pub fn letter(key: u64, place: usize) -> usize {
-    let low = (key % 4) as usize;
-    at8(b"1;abc", plus(low, pick(key, place, above(5, low))))
-}
-
-// ---- the counts
-
-pub fn count(run: &mut [u64; 256], which: usize, more: usize) {
-    let so_far = at64(run, which);
-    put64(run, which, std::num::wrapping_add_u64(so_far, more as u64));
-}
-
-// A difference, in a line: what it is of, and the number of the book.
-pub fn expect(run: &mut [u64; 256], is_so: bool, what: &[u8]) {
-    if !is_so {
-        count(run, DIFFERENCES, 1);
-        io::write_all(1, b"difference: ");
-        io::write_all(1, what);
-        say(run, b", book", NUMBER);
-    }
-}
-
-pub fn say(run: &[u64; 256], what: &[u8], which: usize) {
-    io::write_all(1, what);
-    io::write_all(1, b" ");
-    io::print_decimal(1, at64(run, which));
-    io::write_all(1, b"\n");
-}
-
-// The numbers that occurred, with how often: number 0 stands at `from`.
-pub fn say_numbers(run: &[u64; 256], what: &[u8], from: usize) {
-    io::write_all(1, what);
-    for number in 0..19usize {
-        let times = at64(run, plus(from, number));
-        if times != 0 {
-            io::write_all(1, b", ");
-            io::print_decimal(1, number as u64);
-            io::write_all(1, b": ");
-            io::print_decimal(1, times);
-        }
-    }
-    io::write_all(1, b"\n");
 }

@@ -6,13 +6,14 @@ use native.Mathlib.Omega.{arith}
 use borrow.Author.Tests.{lt-ltb, le-ltb}
 use lib.ListN.{length, get_or, drop, length-take, length-drop}
 use lib.Seq.{get_or-take, get_or-drop}
-use Rattle.format.specs.declared.Head.{Head}
-use Rattle.format.specs.declared.Head.TheVariants.{Short, Unknown, Picture, Rule}
+use Rattle.format.specs.declared.Field.{Field}
+use Rattle.format.specs.declared.Field.TheVariants.{Picture, Rule}
 use Rattle.format.specs.declared.Refusal.{Refusal}
-use Rattle.format.specs.declared.Answer.{Answer}
-use Rattle.format.specs.declared.Answer.TheVariants.{Accepted, Refused}
+use Rattle.format.specs.Answers.{Answer}
+use Rattle.format.specs.declared.Refusal.TheVariants.{Cut, OtherTag}
+use Rattle.std.specs.Prelude.{Result, Ok, Err}
 use Rattle.book.specs.Content.{Content}
-use Rattle.format.specs.Format.{size_at, head_at, Outcome, goes, stops, outcome, picture_field, rule_field, part, field_of, field_at, refused, follow, ended, fields}
+use Rattle.format.specs.Format.{size_at, head_at, BodyWithin, Outcome, goes, stops, outcome, picture_field, rule_field, part, field_of, field_at, refused, follow, ended, fields}
 use Rattle.book.proofs.Cases.{by_lt, by_eq}
 use Rattle.format.proofs.Turns.{head_short, head_cut, head_picture, head_rule, head_unknown}
 
@@ -27,11 +28,11 @@ module _ (s : List ℕ) (b e : ℕ) where
   part_at i h = get_or-take (e - b) (drop b s) i 0 h ∙ get_or-drop b s i 0
 
 -- a header, with what it says of the bytes
-pub data HeadIs (s : List ℕ) (at : ℕ) : Head → Type 0 where
-  short : HeadIs s at Short
-  unknown : HeadIs s at Unknown
-  picture : at + 3 + size_at s at ≤ length s → HeadIs s at (Picture (at + 3) (at + 3 + size_at s at))
-  rule : at + 3 + size_at s at ≤ length s → get_or s at 0 ≡ 0x52 → HeadIs s at (Rule (at + 3) (at + 3 + size_at s at))
+pub data HeadIs (s : List ℕ) (at : ℕ) : Result Field Refusal → Type 0 where
+  short : HeadIs s at (Err (Cut at))
+  unknown : HeadIs s at (Err (OtherTag at))
+  picture : at + 3 + size_at s at ≤ length s → HeadIs s at (Ok (Picture (at + 3) (at + 3 + size_at s at)))
+  rule : at + 3 + size_at s at ≤ length s → get_or s at 0 ≡ 0x52 → HeadIs s at (Ok (Rule (at + 3) (at + 3 + size_at s at)))
 
 pub head_is : (s : List ℕ) (at : ℕ) → HeadIs s at (head_at s at)
 head_is s at =
@@ -48,25 +49,19 @@ head_is s at =
     (λ y. subst (HeadIs s at) (head_rule s at h k x y) (rule k y))
     (λ y. subst (HeadIs s at) (head_unknown s at h k x y) unknown))))
 
-abbrev pub Within : ℕ → ℕ → Head → Type 0
-Within n at Short = Unit
-Within n at Unknown = Unit
-Within n at (Picture b e) = (b ≡ at + 3) × (b ≤ e) × (e ≤ n)
-Within n at (Rule b e) = (b ≡ at + 3) × (b ≤ e) × (e ≤ n)
-
-pub within : (s : List ℕ) (at : ℕ) → Within (length s) at (head_at s at)
+pub within : (s : List ℕ) (at : ℕ) → BodyWithin (length s) at (head_at s at)
 within s at = go (head_is s at)
   where
-    go : {h : Head} → HeadIs s at h → Within (length s) at h
+    go : {h : Result Field Refusal} → HeadIs s at h → BodyWithin (length s) at h
     go short = tt
     go unknown = tt
     go (picture k) = (refl, omega arith, k)
     go (rule k t) = (refl, omega arith, k)
 
 -- what was found to be the head of the field
-module _ (s : List ℕ) (at : ℕ) (x : Head) {h : Head} (p : h ≡ head_at s at) (q : h ≡ x) where
-  pub head_within : Within (length s) at x
-  head_within = subst (Within (length s) at) (sym p ∙ q) (within s at)
+module _ (s : List ℕ) (at : ℕ) (x : Result Field Refusal) {h : Result Field Refusal} (p : h ≡ head_at s at) (q : h ≡ x) where
+  pub head_within : BodyWithin (length s) at x
+  head_within = subst (BodyWithin (length s) at) (sym p ∙ q) (within s at)
 
   pub field_headed : (a : Content) → field_at s at a ≡ field_of s at a x
   unfolding field_at
@@ -81,15 +76,14 @@ Ahead n at (stops r) = Unit
 
 ahead-judged : (n at : ℕ) (t : Answer) (e : ℕ) (a : Content) → (at < e) × (e ≤ n) → Ahead n at (outcome t e a)
 unfolding outcome
-ahead-judged n at Accepted e a h = h
-ahead-judged n at (Refused r) e a h = tt
+ahead-judged n at (Ok tt) e a h = h
+ahead-judged n at (Err r) e a h = tt
 
-ahead_of : (s : List ℕ) (at : ℕ) (a : Content) (h : Head) → Within (length s) at h → Ahead (length s) at (field_of s at a h)
+ahead_of : (s : List ℕ) (at : ℕ) (a : Content) (h : Result Field Refusal) → BodyWithin (length s) at h → Ahead (length s) at (field_of s at a h)
 unfolding field_of picture_field rule_field
-ahead_of s at a Short w = tt
-ahead_of s at a Unknown w = tt
-ahead_of s at a (Picture b e) w = ahead-judged (length s) at _ e _ (omega arith)
-ahead_of s at a (Rule b e) w = ahead-judged (length s) at _ e _ (omega arith)
+ahead_of s at a (Err r) w = tt
+ahead_of s at a (Ok (Picture b e)) w = ahead-judged (length s) at _ e _ (omega arith)
+ahead_of s at a (Ok (Rule b e)) w = ahead-judged (length s) at _ e _ (omega arith)
 
 pub ahead : (s : List ℕ) (at : ℕ) (a : Content) → Ahead (length s) at (field_at s at a)
 unfolding field_at

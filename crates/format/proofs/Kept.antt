@@ -6,9 +6,10 @@ use native.Mathlib.Omega.{arith}
 use borrow.Author.Tests.{eqb-false}
 use lib.ListN.{length, length-take, get_or-eq_default}
 use lib.Dec.{eqb}
-use Rattle.format.specs.declared.Answer.{Answer}
-use Rattle.format.specs.declared.Answer.TheVariants.{Accepted, Refused}
-use Rattle.format.specs.declared.Head.{Head}
+use Rattle.std.specs.Prelude.{Result, Ok, Err}
+use Rattle.format.specs.declared.Refusal.{Refusal}
+use Rattle.format.specs.Answers.{Answer}
+use Rattle.format.specs.declared.Field.{Field}
 use Rattle.book.specs.Content.{Content, nothing, with_picture, with_rule}
 use Rattle.book.specs.Grown.{symbols_of}
 use Rattle.format.specs.Format.{size_at, judge_picture, judge_rule, Outcome, goes, stops, outcome, picture_field, rule_field, part, field_of, field_at, Meaning, means, refused, ended, meaning_of}
@@ -26,19 +27,19 @@ part_bytes s small b e i =
 
 -- P holds of a place and of what stands before it
 module _ (P : ℕ → Content → Type 0)
-    (by_picture : (at : ℕ) (a : Content) (m : List ℕ) → ByteText m → P at a → judge_picture (length a.pictures) at m ≡ Accepted → P (at + 3 + length m) (with_picture a m))
-    (by_rule : (at : ℕ) (a : Content) (l : List ℕ) → ByteText l → P at a → judge_rule (length a.rules) (length a.pictures) at l ≡ Accepted → P (at + 3 + length l) (with_rule a (symbols_of l)))
+    (by_picture : (at : ℕ) (a : Content) (m : List ℕ) → ByteText m → P at a → judge_picture (length a.pictures) at m ≡ Ok tt → P (at + 3 + length m) (with_picture a m))
+    (by_rule : (at : ℕ) (a : Content) (l : List ℕ) → ByteText l → P at a → judge_rule (length a.rules) (length a.pictures) at l ≡ Ok tt → P (at + 3 + length l) (with_rule a (symbols_of l)))
     (s : List ℕ) (small : ByteText s) where
   abbrev After : Outcome → Type 0
   After (goes e a) = P e a
   After (stops r) = Unit
 
-  after_judged : (t : Answer) (e : ℕ) (a : Content) → (t ≡ Accepted → P e a) → After (outcome t e a)
+  after_judged : (t : Answer) (e : ℕ) (a : Content) → (t ≡ Ok tt → P e a) → After (outcome t e a)
   unfolding outcome
-  after_judged Accepted e a h = h refl
-  after_judged (Refused r) e a h = tt
+  after_judged (Ok tt) e a h = h refl
+  after_judged (Err r) e a h = tt
 
-  after_head : (at : ℕ) (a : Content) → P at a → {h : Head} → HeadIs s at h → After (field_of s at a h)
+  after_head : (at : ℕ) (a : Content) → P at a → {h : Result Field Refusal} → HeadIs s at h → After (field_of s at a h)
   unfolding field_of picture_field rule_field
   after_head at a p short = tt
   after_head at a p unknown = tt
@@ -67,7 +68,7 @@ module _ (P : ℕ → Content → Type 0)
   unfolding ended
   at-end a b p e =
       by_test (eqb (length a.rules) 0)
-      (λ t. let w : refused _ ≡ means b = rw t at e in absurd (let o : ◌≡◌ {A = ℕ} 0 1 = cc in omega arith))
+      (λ t. let w : refused _ ≡ means b = rw t at e in absurd (cc))
       (λ t.
       let w : means a ≡ means b = rw t at e in
       let q : a ≡ b = cc in
@@ -79,4 +80,4 @@ module _ (P : ℕ → Content → Type 0)
     where
       go : {m : Meaning} → Ending s m → m ≡ means b → Kept b
       go (ends {a} x) q = at-end a b (before_kept p x) q
-      go (halts x h k) q = absurd (let o : ◌≡◌ {A = ℕ} 0 1 = cc in omega arith)
+      go (halts x h k) q = absurd (cc)

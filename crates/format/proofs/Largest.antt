@@ -6,7 +6,7 @@ use mathlib.Core.List.{List, [], ◌∷◌, ◌++◌, append-nil}
 use native.Mathlib.Omega.{arith}
 use borrow.Author.Tests.{ne_eqb}
 use lib.ListN.{length, length-append}
-use Rattle.format.specs.declared.Answer.TheVariants.{Accepted}
+use Rattle.std.specs.Prelude.{Ok}
 use Rattle.book.specs.Limits.{most_pictures, most_rules, most_symbols}
 use Rattle.book.specs.Content.{Content, nothing, with_picture, table}
 use Rattle.format.specs.Format.{rises, ascending_body, judge_symbol, first_of, judge_symbols, judge_rule, means, ended, meaning_of}
@@ -24,12 +24,12 @@ all_ascend : ascending_body (table 256 (λ c. c)) ≡ true
 unfolding table ascending_body rises
 all_ascend = refl
 
-symbols_sound : (k i : ℕ) → judge_symbols most_pictures i (repeated k (1 ∷ 15 ∷ [])) ≡ Accepted
+symbols_sound : (k i : ℕ) → judge_symbols most_pictures i (repeated k (1 ∷ 15 ∷ [])) ≡ Ok tt
 unfolding repeated judge_symbols judge_symbol first_of
 symbols_sound zero i = refl
 symbols_sound (suc k) i = symbols_sound k (i + 2)
 
-long-sound : (n at : ℕ) → n < most_rules → judge_rule n most_pictures at (repeated most_symbols (1 ∷ 15 ∷ [])) ≡ Accepted
+long-sound : (n at : ℕ) → n < most_rules → judge_rule n most_pictures at (repeated most_symbols (1 ∷ 15 ∷ [])) ≡ Ok tt
 long-sound n at h =
     let body = repeated most_symbols (1 ∷ 15 ∷ []) in
     let l : length body ≡ most_symbols * 2 = length-repeated most_symbols (1 ∷ 15 ∷ []) in

@@ -1,7 +1,9 @@
 -- The members of a picture, and how many they are at most. Assumes nothing.
-use Prim.Native.Nat.{ℕ, zero, suc, ◌≤◌, ◌<◌}
-use mathlib.Core.Path.{◌≡◌, refl}
-use mathlib.Core.Bool.{true}
+use Prim.Native.Nat.{ℕ, zero, suc, ◌+◌, ◌≤◌, ◌<◌}
+use mathlib.Core.Path.{◌≡◌, refl, sym}
+use mathlib.Core.Bool.{Bool, true, false}
+use native.Mathlib.Numerals.{add-one}
+use Rattle.std.specs.List.{IsAllAdjacentAnswer}
 use mathlib.Core.List.{List, [], ◌∷◌}
 use native.Mathlib.Omega.{arith}
 use borrow.Author.Tests.{eqb-true, le-ltb, lt-ltb}
@@ -31,6 +33,22 @@ rises_at (c ∷ d ∷ m) e (suc i) h =
     by_test (ltb c d)
     (λ t. rises_at (d ∷ m) (rw t at e) i (omega arith))
     (λ t. clash e (rw t))
+
+-- the test of neighbours says whether they rise
+rise_all : (m : List ℕ) → ((k d : ℕ) → suc k < length m → true ≡ ltb (get_or m k d) (get_or m (suc k) d)) → rises m ≡ true
+unfolding rises
+rise_all [] f = refl
+rise_all (c ∷ []) f = refl
+rise_all (c ∷ d ∷ m) f = rw (sym (f 0 0 (omega arith))) (rise_all (d ∷ m) (λ k e h. f (suc k) e (omega arith)))
+
+pub rises-test : (m : List ℕ) (r : Bool) → IsAllAdjacentAnswer (λ x y b. b ≡ ltb x y) m r → r ≡ rises m
+rises-test m true f = sym (rise_all m (λ k d h. rw add-one at (f k d (omega arith))))
+rises-test m false (k, h, f) =
+    by_test (rises m)
+    (λ t.
+    let l : get_or m k 0 < get_or m (k + 1) 0 = rw add-one (rises_at m t k (omega arith)) in
+    clash (lt-ltb (get_or m k 0) (get_or m (k + 1) 0) l) (sym (f 0)))
+    sym
 
 -- an accepted body has a byte
 pub ascending_at : (m : List ℕ) → ascending_body m ≡ true → (0 < length m) × (rises m ≡ true)

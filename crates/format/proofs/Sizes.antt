@@ -7,7 +7,7 @@ use native.Mathlib.Omega.{arith}
 use lib.ListN.{length, get_or}
 use Rattle.sets.specs.Sums.{sum_over}
 use Rattle.sets.proofs.Sums.{sum_append}
-use Rattle.format.specs.declared.Answer.TheVariants.{Accepted}
+use Rattle.std.specs.Prelude.{Ok}
 use Rattle.book.specs.Limits.{most_pictures, most_rules, most_symbols}
 use Rattle.book.specs.Content.{Content, nothing, with_picture, with_rule}
 use Rattle.book.specs.Grown.{symbols_of}
@@ -44,7 +44,7 @@ sized_nothing : Sized 0 nothing
 unfolding sum_over
 sized_nothing = record { sound = sound-nothing; ends = refl }
 
-sized_picture : (at : ℕ) (a : Content) (m : List ℕ) → ByteText m → Sized at a → judge_picture (length a.pictures) at m ≡ Accepted → Sized (at + 3 + length m) (with_picture a m)
+sized_picture : (at : ℕ) (a : Content) (m : List ℕ) → ByteText m → Sized at a → judge_picture (length a.pictures) at m ≡ Ok tt → Sized (at + 3 + length m) (with_picture a m)
 sized_picture at a m small z x =
     let (few, up) = picture-sound (length a.pictures) at m x in
     record {
@@ -52,7 +52,7 @@ sized_picture at a m small z x =
       ends = rw (total-snoc picture_bytes a.pictures m) (omega (arith, z.ends));
     }
 
-sized_rule : (at : ℕ) (a : Content) (l : List ℕ) → ByteText l → Sized at a → judge_rule (length a.rules) (length a.pictures) at l ≡ Accepted → Sized (at + 3 + length l) (with_rule a (symbols_of l))
+sized_rule : (at : ℕ) (a : Content) (l : List ℕ) → ByteText l → Sized at a → judge_rule (length a.rules) (length a.pictures) at l ≡ Ok tt → Sized (at + 3 + length l) (with_rule a (symbols_of l))
 sized_rule at a l small z x =
     let h = rule-sound (length a.rules) (length a.pictures) at l refl x in
     record {

@@ -6,8 +6,8 @@ use mathlib.Core.Bool.{true}
 use mathlib.Core.List.{List, [], ◌∷◌}
 use native.Mathlib.Omega.{arith}
 use lib.ListN.{length, get_or}
-use Rattle.format.specs.declared.Answer.{Answer}
-use Rattle.format.specs.declared.Answer.TheVariants.{Accepted, Refused}
+use Rattle.std.specs.Prelude.{Ok, Err}
+use Rattle.format.specs.Answers.{Answer}
 use Rattle.book.specs.Limits.{most_pictures, most_symbols}
 use Rattle.book.specs.Content.{Content, nothing, with_picture, with_rule, member}
 use Rattle.book.specs.Grown.{symbols_of}
@@ -62,12 +62,12 @@ symbol-below h (inl e) = omega arith
 symbol-below h (inr (e, l)) = omega arith
 
 -- of two answers of which none is a refusal
-both : (x y : Answer) → first_of x y ≡ Accepted → (x ≡ Accepted) × (y ≡ Accepted)
+both : (x y : Answer) → first_of x y ≡ Ok tt → (x ≡ Ok tt) × (y ≡ Ok tt)
 unfolding first_of
-both Accepted y e = (refl, e)
-both (Refused r) y e = never e
+both (Ok tt) y e = (refl, e)
+both (Err r) y e = never e
 
-judge_below : (p i : ℕ) (l : List ℕ) → ByteText l → judge_symbols p i l ≡ Accepted → (j : ℕ) → get_or (symbols_of l) j 0 < 256 + p
+judge_below : (p i : ℕ) (l : List ℕ) → ByteText l → judge_symbols p i l ≡ Ok tt → (j : ℕ) → get_or (symbols_of l) j 0 < 256 + p
 unfolding judge_symbols symbols_of
 judge_below p i [] h e j = omega arith
 judge_below p i (k ∷ []) h e j = omega arith
@@ -75,7 +75,7 @@ judge_below p i (k ∷ b ∷ l) h e zero = symbol-below (h 1) (is_symbol p i k b
 judge_below p i (k ∷ b ∷ l) h e (suc j) = judge_below p (i + 2) l (λ x. h (suc (suc x))) (both (judge_symbol p i k b) (judge_symbols p (i + 2) l) e).1 j
 
 pub sound-rule : (a : Content) → Sound a → (at : ℕ) (l : List ℕ) → ByteText l
-    → judge_rule (length a.rules) (length a.pictures) at l ≡ Accepted → Sound (with_rule a (symbols_of l))
+    → judge_rule (length a.rules) (length a.pictures) at l ≡ Ok tt → Sound (with_rule a (symbols_of l))
 sound-rule a S at l small e =
     let h = rule-sound (length a.rules) (length a.pictures) at l refl e in
     let n = length_symbols l in
@@ -98,5 +98,5 @@ named_earlier at e e' a b l small q =
     go (judge_rule (length a.rules) (length a.pictures) at l) refl q
   where
     go : (t : Answer) → judge_rule (length a.rules) (length a.pictures) at l ≡ t → outcome t e (with_rule a (symbols_of l)) ≡ goes e' b → (j : ℕ) → get_or (symbols_of l) j 0 < 256 + length a.pictures
-    go Accepted u v = judge_below (length a.pictures) (at + 3) l small (rule-sound (length a.rules) (length a.pictures) at l refl u).4
-    go (Refused r) u v = absurd (let o : ◌≡◌ {A = ℕ} 0 1 = cc in omega arith)
+    go (Ok tt) u v = judge_below (length a.pictures) (at + 3) l small (rule-sound (length a.rules) (length a.pictures) at l refl u).4
+    go (Err r) u v = absurd (cc)

@@ -7,8 +7,8 @@ use native.Mathlib.Omega.{arith}
 use borrow.Author.Tests.{lt-ltb, le-ltb, eq-eqb, ne_eqb}
 use lib.ListN.{length, get_or}
 use Rattle.format.specs.declared.Refusal.{Refusal}
-use Rattle.format.specs.declared.Answer.{Answer}
-use Rattle.format.specs.declared.Answer.TheVariants.{Accepted, Refused}
+use Rattle.format.specs.Answers.{Answer}
+use Rattle.std.specs.Prelude.{Ok, Err}
 use Rattle.format.specs.Format.{judge_symbol, first_of, judge_symbols}
 use Rattle.format.specs.Which.{IsSymbol, Amiss, unknown, undefined}
 use Rattle.book.proofs.Cases.{by_lt, by_eq}
@@ -18,16 +18,16 @@ use Rattle.format.proofs.Answers.{never}
 
 -- what the answer to a pair says of it
 pub data Told (p v k b : ℕ) : Answer → Type 0 where
-  sound : IsSymbol p k b → Told p v k b Accepted
-  amiss : {r : Refusal} → Amiss p v k b r → Told p v k b (Refused r)
+  sound : IsSymbol p k b → Told p v k b (Ok tt)
+  amiss : {r : Refusal} → Amiss p v k b r → Told p v k b (Err r)
 
 module _ (p v k b : ℕ) where
-  pub passes : IsSymbol p k b → judge_symbol p v k b ≡ Accepted
+  pub passes : IsSymbol p k b → judge_symbol p v k b ≡ Ok tt
   unfolding judge_symbol
   passes (inl e) = rw (eq-eqb k 0 e)
   passes (inr (e, h)) = rw (ne_eqb k 0 (omega arith), eq-eqb k 1 e, lt-ltb b p h)
 
-  pub fails : {r : Refusal} → Amiss p v k b r → judge_symbol p v k b ≡ Refused r
+  pub fails : {r : Refusal} → Amiss p v k b r → judge_symbol p v k b ≡ Err r
   unfolding judge_symbol
   fails (unknown h) = rw (ne_eqb k 0 (omega arith), ne_eqb k 1 (omega arith))
   fails (undefined e h) = rw (ne_eqb k 0 (omega arith), eq-eqb k 1 e, le-ltb b p h)
@@ -47,10 +47,10 @@ module _ (p v k b : ℕ) where
       bad : {r : Refusal} → Amiss p v k b r → Told p v k b (judge_symbol p v k b)
       bad x = rw (fails x) (amiss x)
 
-  pub is_symbol : judge_symbol p v k b ≡ Accepted → IsSymbol p k b
+  pub is_symbol : judge_symbol p v k b ≡ Ok tt → IsSymbol p k b
   is_symbol e = go told e
     where
-      go : {t : Answer} → Told p v k b t → t ≡ Accepted → IsSymbol p k b
+      go : {t : Answer} → Told p v k b t → t ≡ Ok tt → IsSymbol p k b
       go (sound x) q = x
       go (amiss x) q = never q
 
@@ -77,18 +77,18 @@ each : {p : ℕ} (k b : ℕ) (l : List ℕ) (n : ℕ) → IsSymbol p k b → ((j
 each k b l n w f zero h = w
 each k b l n w f (suc j) h = rw (kind_after k b l j, second_after k b l j) (f j (omega arith))
 
-pub found : (p o : ℕ) (l : List ℕ) {r : Refusal} → judge_symbols p o l ≡ Refused r → First p o l r
+pub found : (p o : ℕ) (l : List ℕ) {r : Refusal} → judge_symbols p o l ≡ Err r → First p o l r
 unfolding judge_symbols first_of
 found p o [] e = never (sym e)
 found p o (k ∷ []) e = never (sym e)
 found p o (k ∷ b ∷ l) {r} e = go (judge_symbol p o k b) e (told p o k b) (λ x. found p (o + 2) l x)
   where
-    go : (t : Answer) → first_of t (judge_symbols p (o + 2) l) ≡ Refused r → Told p o k b t → (judge_symbols p (o + 2) l ≡ Refused r → First p (o + 2) l r) → First p o (k ∷ b ∷ l) r
-    go (Refused x) q (amiss w) f =
+    go : (t : Answer) → first_of t (judge_symbols p (o + 2) l) ≡ Err r → Told p o k b t → (judge_symbols p (o + 2) l ≡ Err r → First p (o + 2) l r) → First p o (k ∷ b ∷ l) r
+    go (Err x) q (amiss w) f =
         let z : x ≡ r = cc in
         let n : o + 2 * 0 ≡ o = omega arith in
         record { i = 0; inside = omega arith; sound = λ j h. absurd (omega arith); amiss = rw n (subst (Amiss p o k b) z w) }
-    go Accepted q (sound w) f =
+    go (Ok tt) q (sound w) f =
         let x = f q in
         let n : o + 2 * suc x.i ≡ o + 2 + 2 * x.i = omega arith in
         record {
@@ -99,7 +99,7 @@ found p o (k ∷ b ∷ l) {r} e = go (judge_symbol p o k b) e (told p o k b) (λ
         }
 
 pub is_first : (p o : ℕ) (l : List ℕ) {r : Refusal} (i : ℕ) → 2 * i + 1 < length l → ((j : ℕ) → j < i → IsSymbol p (get_or l (2 * j) 0) (get_or l (2 * j + 1) 0))
-    → Amiss p (o + 2 * i) (get_or l (2 * i) 0) (get_or l (2 * i + 1) 0) r → judge_symbols p o l ≡ Refused r
+    → Amiss p (o + 2 * i) (get_or l (2 * i) 0) (get_or l (2 * i + 1) 0) r → judge_symbols p o l ≡ Err r
 unfolding judge_symbols first_of
 is_first p o [] i h f w = absurd (omega arith)
 is_first p o (k ∷ []) i h f w = absurd (omega arith)

@@ -6,12 +6,11 @@ use mathlib.Core.List.{List}
 use native.Mathlib.Omega.{arith}
 use lib.ListN.{length, get_or}
 use lib.Dec.{eqb}
-use Rattle.format.specs.declared.Answer.{Answer}
-use Rattle.format.specs.declared.Answer.TheVariants.{Accepted, Refused}
-use Rattle.format.specs.declared.Head.{Head}
+use Rattle.std.specs.Prelude.{Result, Ok, Err}
+use Rattle.format.specs.declared.Field.{Field}
 use Rattle.format.specs.declared.Refusal.{Refusal}
 use Rattle.format.specs.declared.Refusal.TheVariants.{Cut, OtherTag, NoRule}
-use Rattle.format.specs.Answers.{number}
+use Rattle.format.specs.Answers.{Answer, number}
 use Rattle.book.specs.Content.{Content, with_rule}
 use Rattle.book.specs.Grown.{symbols_of}
 use Rattle.format.specs.Format.{size_at, judge_picture, judge_rule, stops, outcome, picture_field, rule_field, part, field_of, field_at, means, Meaning, refused, ended, meaning_of}
@@ -52,7 +51,7 @@ module _ (s : List ℕ) (at : ℕ) (h : at + 3 + size_at s at ≤ length s) wher
 -- ---- from the fault to the refusal
 
 module _ {s : List ℕ} {r : Refusal} (f : Faulty s r) where
-  judged : judge_rule (length f.content.rules) (length f.content.pictures) f.at (body s f.at) ≡ Refused r
+  judged : judge_rule (length f.content.rules) (length f.content.pictures) f.at (body s f.at) ≡ Err r
   judged =
       let n = body-long s f.at f.whole in
       let here = f.inside in
@@ -72,7 +71,7 @@ module _ {s : List ℕ} {r : Refusal} (f : Faulty s r) where
 
 module _ {s : List ℕ} {r : Refusal} (late : 17 ≤ number r) {at : ℕ} {a : Content} (p : ReadUpTo s at a) where
   -- a refused rule
-  by_rule : at + 3 + size_at s at ≤ length s → get_or s at 0 ≡ 0x52 → Refused r ≡ judge_rule (length a.rules) (length a.pictures) at (body s at) → Faulty s r
+  by_rule : at + 3 + size_at s at ≤ length s → get_or s at 0 ≡ 0x52 → Err r ≡ judge_rule (length a.rules) (length a.pictures) at (body s at) → Faulty s r
   by_rule h t e =
       let (room, few, some, even, q) = rule_left (length a.rules) (length a.pictures) at (body s at) e (λ z. absurd (omega (arith, number_same z))) (λ z. absurd (omega (arith, number_same z))) (λ z. absurd (omega (arith, number_same z))) in
       let n = body-long s at h in
@@ -93,15 +92,15 @@ module _ {s : List ℕ} {r : Refusal} (late : 17 ≤ number r) {at : ℕ} {a : C
         amiss = rw (kind_at s at h whole x.i (omega (arith, x.inside)), second_at s at h whole x.i (omega (arith, x.inside))) at x.amiss;
       }
 
-  by_judged : (t : Answer) (e : ℕ) (b : Content) → outcome t e b ≡ stops r → Refused r ≡ t
+  by_judged : (t : Answer) (e : ℕ) (b : Content) → outcome t e b ≡ stops r → Err r ≡ t
   unfolding outcome
-  by_judged Accepted e b q = absurd (let o : ◌≡◌ {A = ℕ} 0 1 = cc in omega arith)
-  by_judged (Refused x) e b q = let o : x ≡ r = cc in ap Refused (sym o)
+  by_judged (Ok tt) e b q = absurd (cc)
+  by_judged (Err x) e b q = let o : x ≡ r = cc in ap Err (sym o)
 
   by_stop : (x : Refusal) → number x ≤ 16 → stops x ≡ stops r → Faulty s r
   by_stop x h q = let o : x ≡ r = cc in absurd (let n : number x ≡ number r = ap number o in omega arith)
 
-  by_head : {h : Head} → HeadIs s at h → field_of s at a h ≡ stops r → Faulty s r
+  by_head : {h : Result Field Refusal} → HeadIs s at h → field_of s at a h ≡ stops r → Faulty s r
   unfolding field_of picture_field rule_field body
   by_head short q = by_stop (Cut at) (omega arith) q
   by_head unknown q = by_stop (OtherTag at) (omega arith) q
@@ -117,4 +116,4 @@ refused_just s r late = (λ e. go (ending s) e, is_refused)
     go (ends {a} p) q =
         by_test (eqb (length a.rules) 0)
         (λ t. let w : refused (NoRule (length s)) ≡ refused r = rw t at q in let o : NoRule (length s) ≡ r = cc in absurd (let n : 9 ≡ number r = ap number o in omega arith))
-        (λ t. let w : means a ≡ refused r = rw t at q in absurd (let o : ◌≡◌ {A = ℕ} 0 1 = cc in omega arith))
+        (λ t. let w : means a ≡ refused r = rw t at q in absurd (cc))

@@ -6,9 +6,9 @@ use native.Mathlib.Nat.{add-zero, zero-mul, suc-mul}
 use native.Mathlib.Omega.{arith}
 use lib.ListN.{length, get_or, drop, length-append}
 use lib.Seq.{get_or-append_seam, get_or-append-add, take-append_seam, drop-append_seam}
-use Rattle.format.specs.declared.Head.TheVariants.{Picture, Rule}
-use Rattle.format.specs.declared.Answer.{Answer}
-use Rattle.format.specs.declared.Answer.TheVariants.{Accepted}
+use Rattle.format.specs.declared.Field.TheVariants.{Picture, Rule}
+use Rattle.std.specs.Prelude.{Ok}
+use Rattle.format.specs.Answers.{Answer}
 use Rattle.book.specs.Limits.{most_rules}
 use Rattle.book.specs.Content.{Content, with_picture, with_rule}
 use Rattle.book.specs.Grown.{symbols_of}
@@ -54,13 +54,13 @@ module _ {s : List ℕ} (x y : List ℕ) (tag high low : ℕ) (body : List ℕ) 
       subst (λ (n : ℕ). ReadUpTo s n b) e (next p (omega arith) k)
 
   module _ (a : Content) where
-    pub picture-read : tag ≡ 0x50 → judge_picture (length a.pictures) (length x) body ≡ Accepted → field_at s (length x) a ≡ goes (length x + 3 + length body) (with_picture a body)
+    pub picture-read : tag ≡ 0x50 → judge_picture (length a.pictures) (length x) body ≡ Ok tt → field_at s (length x) a ≡ goes (length x + 3 + length body) (with_picture a body)
     unfolding field_of picture_field outcome
     picture-read t sound =
         let w = ends-within in
         let k : length x + 3 + size_at s (length x) ≤ length s = rw size-at w in
         let h = head_picture s (length x) (omega arith) k (tag_at ∙ t) in
-        field_headed s (length x) (Picture (length x + 3) (length x + 3 + size_at s (length x))) refl (sym h) a
+        field_headed s (length x) (Ok (Picture (length x + 3) (length x + 3 + size_at s (length x)))) refl (sym h) a
         ∙ rw (size-at, body_at, sound)
 
     pub rule-read : tag ≡ 0x52 → {t : Answer} → judge_rule (length a.rules) (length a.pictures) (length x) body ≡ t → field_at s (length x) a ≡ outcome t (length x + 3 + length body) (with_rule a (symbols_of body))
@@ -69,7 +69,7 @@ module _ {s : List ℕ} (x y : List ℕ) (tag high low : ℕ) (body : List ℕ) 
         let w = ends-within in
         let k : length x + 3 + size_at s (length x) ≤ length s = rw size-at w in
         let h = head_rule s (length x) (omega arith) k (λ z. omega (arith, tag_at)) (tag_at ∙ t) in
-        field_headed s (length x) (Rule (length x + 3) (length x + 3 + size_at s (length x))) refl (sym h) a
+        field_headed s (length x) (Ok (Rule (length x + 3) (length x + 3 + size_at s (length x)))) refl (sym h) a
         ∙ rw (size-at, body_at, judged)
 
 -- ---- many fields
@@ -109,14 +109,14 @@ pub record Stands (s : List ℕ) (at p k : ℕ) : Type 0 where
   pub rules : length content.rules ≡ k
 
 -- equal rules after p pictures, each accepted where there is room: as many as there may be
-module _ {s : List ℕ} (p high low : ℕ) (body : List ℕ) (l : length body ≡ 256 * high + low) (sound : (n at : ℕ) → n < most_rules → judge_rule n p at body ≡ Accepted) where
+module _ {s : List ℕ} (p high low : ℕ) (body : List ℕ) (l : length body ≡ 256 * high + low) (sound : (n at : ℕ) → n < most_rules → judge_rule n p at body ≡ Ok tt) where
   rule-more : (x y : List ℕ) (i : ℕ) → s ≡ x ++ (0x52 ∷ high ∷ low ∷ body ++ y) → i < most_rules → Stands s (length x) p i → Stands s (length x + length (0x52 ∷ high ∷ low ∷ body)) p (suc i)
   unfolding outcome
   rule-more x y i q h r =
       let a = r.content in
       record {
         content = with_rule a (symbols_of body);
-        before = before_end x y 0x52 high low body q l r.before (rule-read x y 0x52 high low body q l a refl {t = Accepted} (rw (r.pictures, r.rules) (sound i (length x) h)));
+        before = before_end x y 0x52 high low body q l r.before (rule-read x y 0x52 high low body q l a refl {t = (Ok tt)} (rw (r.pictures, r.rules) (sound i (length x) h)));
         pictures = r.pictures;
         rules = length-snoc a.rules (symbols_of body) ∙ omega (arith, r.rules);
       }

@@ -1,8 +1,7 @@
 -- The number and the value that the paper gives to each answer of the reader. Assumes nothing.
 use Rattle.std.specs.Prelude.{ℕ}
 use Rattle.format.specs.declared.Refusal.{Refusal}
-use Rattle.format.specs.declared.Answer.{Answer}
-use Rattle.format.specs.declared.Answer.TheVariants.{Accepted, Refused}
+use Rattle.std.specs.Prelude.{Result, Ok, Err}
 use Rattle.format.specs.declared.Refusal.TheVariants.{Cut, OtherTag, PictureBody, PictureMany, RuleBody, RuleLong, RuleMany, NoRule, UnknownKind, UndefinedPicture}
 
 -- the number of a refusal
@@ -31,12 +30,18 @@ value (NoRule n) = n
 value (UnknownKind at) = at
 value (UndefinedPicture at) = at
 
+-- ---- an answer
+
+-- the answer to a book, a field or a symbol: nothing more, or why it is refused
+abbrev pub Answer : Type 0
+Answer = Result (Unit {0}) Refusal
+
 -- the number of an answer: 0 where the book is accepted
 abbrev pub number_of : Answer → ℕ
-number_of Accepted = 0
-number_of (Refused r) = number r
+number_of (Ok u) = 0
+number_of (Err r) = number r
 
 -- the value of an answer: 0 where the book is accepted
 abbrev pub value_of : Answer → ℕ
-value_of Accepted = 0
-value_of (Refused r) = value r
+value_of (Ok u) = 0
+value_of (Err r) = value r

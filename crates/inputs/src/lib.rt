@@ -20,67 +20,53 @@ pub const ENTRIES: usize = 256 * ROWS;
 
 pub const WORDS: usize = words::WORDS * ROWS;
 
-// What reading an input came to: all its bytes, so many; or it cannot be read or is too long.
-#[derive(Drop)]
-enum Input {
-    Whole(usize),
-    Refused,
+// Both inputs, whole: so many bytes of each. Lengths and no slices: `InputFits` and `BothFit` are of these, and the caller lent the buffers.
+#[derive(Clone, Copy)]
+pub struct Both {
+    pub book: usize,
+    pub text: usize,
 }
 
-// What reading both came to: all the bytes of each; or one of them is refused.
-#[derive(Drop)]
-pub enum Both {
-    Whole { book: usize, text: usize },
-    Refused,
-}
-
-// Reads the book and the text.
+// Reads the book and the text; or one of them cannot be read or is too long.
 pub fn read_both(
     rt: &(impl Files + io::Input),
     book: &mut [u8; BOOK_ROOM],
     text: &mut [u8; TEXT_ROOM],
-) -> Both
+) -> Option<Both>
     ensures { BothFit result (length book.new) (length text.new) }
 {
-    let Input::Whole(b) = read_book(rt, book) else {
-        return Both::Refused;
-    };
-    let Input::Whole(t) = read_text(rt, text) else {
-        return Both::Refused;
-    };
-    Both::Whole { book: b, text: t }
+    Some(Both {
+        book: read_book(rt, book)?,
+        text: read_text(rt, text)?,
+    })
 }
 
-// Reads the file `book.bin` of the working folder.
-fn read_book(rt: &impl Files, room: &mut [u8; BOOK_ROOM]) -> Input
+// Reads the file `book.bin` of the working folder, which has so many bytes.
+fn read_book(rt: &impl Files, room: &mut [u8; BOOK_ROOM]) -> Option<usize>
     ensures { InputFits result (length room.new) }
 {
-    let Ok(mut file) = fs::open(rt, "book.bin") else {
-        return Input::Refused;
-    };
+    let mut file = fs::open(rt, "book.bin").ok()?;
     read_all(&mut file, room)
 }
 
-// Reads standard input.
-fn read_text(rt: &impl io::Input, room: &mut [u8; TEXT_ROOM]) -> Input
+// The same of standard input.
+fn read_text(rt: &impl io::Input, room: &mut [u8; TEXT_ROOM]) -> Option<usize>
     ensures { InputFits result (length room.new) }
 {
     read_all(&mut rt.reader(), room)
 }
 
-// Reads to the end of the input, which has to come before the room is full.
-fn read_all(file: &mut impl Read, room: &mut [u8]) -> Input
+// Reads to the end of the input, which has to come before the room is full. The library's `read_to_end` fills a `Vec`.
+fn read_all(file: &mut impl Read, room: &mut [u8]) -> Option<usize>
     ensures { InputFits result (length room.new) }
 {
     let mut done = 0;
     while done < room.len() {
-        let Ok(more) = file.read(&mut room[done..]) else {
-            return Input::Refused;
-        };
+        let more = file.read(&mut room[done..]).ok()?;
         if more == 0 {
-            return Input::Whole(done);
+            return Some(done);
         }
         done += more;
     }
-    Input::Refused
+    None
 }

@@ -1,129 +1,102 @@
 // The leaf of a line: its last frame is walked over tables, and the line's count goes to the lowest rule that fits the whole of it, or to unnamed.
 #![tactic(auto)]
 
-ghost use Rattle.std.specs.Prelude.{◌≡◌, get_or};
+ghost use Rattle.std.specs.Prelude.{◌≡◌, ◌≤◌, ◌<◌, IfErr, MatchResult, length};
 ghost use Rattle.sets.specs.Sets.{set_of};
-ghost use Rattle.lent.specs.Lent.{given};
+ghost use Rattle.book.specs.Limits.{most_rules};
+ghost use Rattle.lent.specs.Lent.{tables_of};
 ghost use Rattle.one_byte.specs.Move.{move_of};
 ghost use Rattle.leaf.specs.Leaf.{leaf_start, end_of, lowest_of, family_at, line_leaf};
 
+use answers::Damaged;
 use book::Book;
+use lent::Machine;
 use lines::{Line, SEMICOLON};
 use words::WORDS;
 
-// Where the walk of a leaf ends: in a row, or at a byte whose move is lost.
-#[derive(Drop)]
-enum Ended {
-    InRow { row: usize },
-    AtByte { at: usize },
-}
-
-// What a line's leaf comes to: the line's count goes to a place, or the walk fails at a byte of the line.
-#[derive(Drop)]
-pub enum Leaf {
-    Counts { place: usize, count: u64 },
-    Fails { at: usize },
+// What a line's leaf comes to: the line's count goes to a place.
+#[derive(Clone, Copy)]
+pub struct Leaf {
+    pub place: usize,
+    pub count: u64,
 }
 
 // ---- a leaf
 
 // Where the last frame of a stack starts: behind its last `;`.
 fn leaf_start(stack: &[u8]) -> usize
-    ensures { result ≡ leaf_start stack.now }
+    ensures place { result ≡ leaf_start stack.now }
+    ensures within { result ≤ length stack.now }
 {
-    let mark = lines::find_last(stack, SEMICOLON);
-    if mark == stack.len() {
-        return 0;
+    match lines::last_mark(stack, SEMICOLON) {
+        Some(mark) => mark + 1,
+        None => 0,
     }
-    mark + 1
 }
 
-// Walks a leaf as a text of its own, and reports nothing.
-fn walk_leaf(goto: &[u16], fall: &[u16], n: usize, leaf: &[u8]) -> Ended
-    ensures { result ≡ end_of (move_of goto.now fall.now n) leaf.now }
+// The row in which the walk of a leaf as a text of its own ends; it reports nothing.
+fn walk_leaf(tables: &Machine, leaf: &[u8]) -> Result<usize, Damaged>
+    ensures row { result ≡ end_of (move_of tables.now.goto.now tables.now.fall.now tables.now.rows) leaf.now }
+    ensures within { IfErr result (λ d. d.at < length leaf.now) }
 {
     let mut row = 0;
-    let mut at = 0;
-    while at < leaf.len() {
-        match one_byte::move_on(goto, fall, n, row, leaf[at]) {
-            one_byte::Moved::Reached {
-                row: next,
-                falls: _,
-            } => {
-                row = next;
-                at += 1;
-            }
-            one_byte::Moved::Lost => return Ended::AtByte { at },
-        }
+    for (at, byte) in leaf.iter().enumerate() {
+        row = one_byte::move_on(tables, row, *byte)
+            .ok_or(Damaged { at })?
+            .row;
     }
-    Ended::InRow { row }
+    Ok(row)
 }
 
-// The lowest rule that is in both sets, or the place after the last rule.
+// The lowest rule that is in both sets, or the place after the last rule: it is that of unnamed, which the paper counts like a family.
+// By number, since of slices of any length just WORDS words count, and a word that a slice has not is 0.
 fn lowest(live: &[u64], out: &[u64]) -> usize
     ensures { result ≡ lowest_of (set_of live.now) (set_of out.now) }
 {
-    let mut i: usize = 0;
-    while i < WORDS {
+    for i in 0..WORDS {
         let both = words::word(live, i) & words::word(out, i);
         if both != 0 {
             return 64 * i + bits::first(both) as usize;
         }
-        i += 1;
     }
     Book::RULES
 }
 
-// A row's held length; 0 where the table has no such row.
-fn held_at(held: &[u8], row: usize) -> usize
-    ensures { result ≡ get_or held.now row 0 }
-{
-    if row < held.len() {
-        return held[row] as usize;
-    }
-    0
-}
-
 // The family of a leaf of `size` bytes whose walk ends in the row.
-fn family(held: &[u8], live: &[u64], out: &[u64], row: usize, size: usize) -> usize
-    ensures { result ≡ family_at held.now live.now out.now row size }
+#[tactic(auto, unfolding(crate::specs::Leaf::family_at))]
+fn family(tables: &Machine, row: usize, size: usize) -> usize
+    ensures { result ≡ family_at tables.now.held.now tables.now.live.now tables.now.out.now row size }
 {
-    if held_at(held, row) != size {
+    let held = tables.held.get(row).copied().unwrap_or(0);
+    if usize::from(held) != size {
         return Book::RULES;
     }
-    let whole = one_byte::rules(live, row);
-    let ending = one_byte::rules(out, row);
-    lowest(&whole, &ending)
+    lowest(
+        &one_byte::rules(tables.live, row),
+        &one_byte::rules(tables.out, row),
+    )
 }
 
 // ---- a line
 
-// What a line's leaf comes to.
-pub fn of_line(
-    goto: &[u16],
-    fall: &[u16],
-    held: &[u8],
-    live: &[u64],
-    out: &[u64],
-    n: usize,
-    line: &[u8],
-) -> Leaf
-    ensures { result ≡ line_leaf (given goto.now fall.now held.now live.now out.now) n line.now }
+// What a line's leaf comes to. A line that breaks the rules counts 0 to unnamed, as `line_leaf` says; where a profile is added, `lines::check` has refused it before.
+#[tactic(auto, using(lines::proofs::Lines::stack_within, crate::proofs::InBoth::family_within))]
+pub fn of_line(tables: &Machine, line: &[u8]) -> Result<Leaf, Damaged>
+    ensures leaf { result ≡ line_leaf (tables_of tables.now) tables.now.rows line.now }
+    ensures within { MatchResult result (λ l. l.place ≤ most_rules) (λ d. d.at < length line.now) }
 {
-    match lines::read_line(line) {
-        Line::Sound { stack, count } => {
-            let start = leaf_start(&line[..stack]);
-            match walk_leaf(goto, fall, n, &line[start..stack]) {
-                Ended::InRow { row } => Leaf::Counts {
-                    place: family(held, live, out, row, stack - start),
-                    count,
-                },
-                Ended::AtByte { at } => Leaf::Fails { at: start + at },
-            }
-        }
-        Line::Broken => Leaf::Counts {
+    let Some(Line { stack, count }) = lines::read_line(line) else {
+        return Ok(Leaf {
             place: Book::RULES,
             count: 0,
-        },
-    }
+        });
+    };
+    let start = leaf_start(&line[..stack]);
+    let row = walk_leaf(tables, &line[start..stack]).map_err(|damage| Damaged {
+        at: start + damage.at,
+    })?;
+    Ok(Leaf {
+        place: family(tables, row, stack - start),
+        count,
+    })
 }

@@ -1,216 +1,171 @@
-// Records compared: the answer, and every total, before and after; and the shares of a record.
-use crate::report::expect;
-use crate::safe::{above, add64, at64, medium, plus, put64};
-use crate::tables::Tables;
-use crate::{plain, report, tables};
+// Records compared: the answer, and every total, before and after; and the shares of a record. Sums here stay small; one that did not would wrap.
+use crate::plain::{Families, Parts};
+use crate::report::Run;
+use drawn::{Reason, Refused, judge};
 use leaf_totals::LeafTotals;
-use leaves::Handed;
-
-const LONGEST: usize = 1048576;
+use lent::Machine;
 
 pub const LIMIT: u64 = 9007199254740991;
 
-// The totals, unnamed and the profiles of a record.
-fn flat(record: LeafTotals) -> [u64; 263] {
-    let mut all = [0u64; 263];
-    let totals = record.totals;
-    for i in 0..256usize {
-        all[i] = totals[i];
-    }
-    all[256] = record.unnamed;
-    all[plain::PROFILES] = record.profiles as u64;
+// The totals of a record, unnamed last.
+fn all_of(record: &LeafTotals) -> [u64; 257] {
+    let mut all = [record.unnamed; 257];
+    all[..256].copy_from_slice(&record.totals);
     all
 }
 
-// The sum of the 257 totals, or a number above the limit where it is above that.
-fn whole_of(totals: &[u64; 263]) -> u64 {
+// The sum of the totals; nothing where it is above the limit.
+fn whole_of(totals: &[u64; 257]) -> Option<u64> {
     let mut sum = 0u64;
-    for i in 0..257usize {
-        let t = totals[i];
-        if LIMIT < sum || LIMIT < t {
-            return LIMIT + 1;
-        }
-        sum = std::num::wrapping_add_u64(sum, t);
+    for total in totals {
+        sum = sum.checked_add(*total).filter(|sum| *sum <= LIMIT)?;
     }
-    sum
+    Some(sum)
 }
 
 // ---- a profile
 
-// The number of the answer that is meant, and what the profile adds.
-fn number_for(
-    t: Tables,
-    goto: &[u16; 16384],
+// The answer that is meant. What the profile adds goes to the parts.
+fn answer_for<F: Families>(
+    tables: &Machine<'_>,
+    how: &F,
     profile: &[u8],
-    before: &[u64; 263],
-    parts: &mut [u64; 263],
-) -> usize {
-    if 1023 < before[plain::PROFILES] {
-        return 21;
+    old: &LeafTotals,
+    parts: &mut Parts,
+) -> Result<(), Refused> {
+    if 1023 < old.profiles {
+        return Err(Refused::at(Reason::Full, 1024));
     }
-    if LONGEST < profile.len() {
-        return 11;
+    judge(tables, profile)?;
+    parts.add_lines(how, profile)?;
+    let whole = whole_of(&all_of(old)).ok_or(past())?;
+    if LIMIT < whole.wrapping_add(parts.counts) {
+        return Err(past());
     }
-    if t.n == 0 || 64 < t.n {
-        return 12;
-    }
-    plain::add_lines(t, goto, profile, parts);
-    number_of(whole_of(before), parts)
+    Ok(())
 }
 
-// Of a profile that was read to its end or to a bad line.
-fn number_of(whole: u64, parts: &[u64; 263]) -> usize {
-    if parts[plain::BAD] != 0 {
-        15
-    } else if parts[plain::FAILED] != 0 {
-        13
-    } else {
-        number_of_shares(std::num::wrapping_add_u64(whole, parts[plain::COUNTS]))
-    }
+fn past() -> Refused {
+    Refused::at(Reason::Past, LIMIT as usize)
 }
 
-fn number_of_shares(whole: u64) -> usize {
-    if LIMIT < whole { 20 } else { 0 }
-}
-
-fn value_for(number: usize, n: usize, parts: &[u64; 263]) -> u64 {
-    match number {
-        11 => LONGEST as u64,
-        12 => n as u64,
-        13 => std::num::wrapping_sub_u64(parts[plain::FAILED], 1),
-        15 => std::num::wrapping_sub_u64(parts[plain::BAD], 1),
-        20 => LIMIT,
-        21 => 1024,
-        _ => 0,
-    }
-}
-
-// Whether a record is the one before, with the parts where these are accepted.
-fn is_record(
-    after: &[u64; 263],
-    before: &[u64; 263],
-    parts: &[u64; 263],
-    is_accepted: bool,
-) -> bool {
-    for i in 0..258usize {
-        let more = if is_accepted { parts[i] } else { 0 };
-        if after[i] != std::num::wrapping_add_u64(before[i], more) {
-            return false;
+// Whether a record is the one before, with the parts where there are any.
+fn is_record(new: &LeafTotals, old: &LeafTotals, parts: Option<&Parts>) -> bool {
+    let before = all_of(old);
+    let mut profiles = old.profiles;
+    let mut meant = before;
+    if let Some(parts) = parts {
+        profiles = profiles.wrapping_add(1);
+        for i in 0..257 {
+            meant[i] = before[i].wrapping_add(parts.totals[i]);
         }
     }
-    true
+    all_of(new) == meant && new.profiles == profiles
 }
 
-// Whether all is as it is meant; the parts have the counts of all lines between them.
-fn is_meant(
-    handed: Handed,
-    number: usize,
-    value: u64,
-    before: &[u64; 263],
-    parts: &[u64; 263],
-) -> bool {
-    let answer = handed.answer;
-    let after = flat(handed.back);
-    answer.number() == number
-        && answer.value() == value
-        && is_record(&after, before, parts, number == 0)
-        && whole_of(parts) == parts[plain::COUNTS]
+// The number that is meant, and the record after.
+#[derive(Clone, Copy)]
+pub struct Added {
+    pub number: usize,
+    pub record: LeafTotals,
 }
 
-// Adds the profile to the record, and compares with what is meant. Answers the record after.
-pub fn added(
-    run: &mut [u64; 256],
-    t: Tables,
-    goto: &[u16; 16384],
+// Adds the profile to the record, and compares with what is meant; the parts have the counts of all lines between them.
+pub fn add<F: Families>(
+    run: &mut Run,
+    tables: &Machine<'_>,
+    how: &F,
     profile: &[u8],
     old: LeafTotals,
-    kind: usize,
-) -> LeafTotals {
-    let before = flat(old);
-    let mut parts = [0u64; 263];
-    let number = number_for(t, goto, profile, &before, &mut parts);
-    let value = value_for(number, t.n, &parts);
-    let handed = tables::add(t, goto, profile, old);
-    expect(run, is_meant(handed, number, value, &before, &parts));
-    add64(run, plus(kind, number), 1);
-    add64(run, report::LEAVES, parts[plain::LEAVES]);
-    add64(run, report::LEAVES + 1, parts[plain::LEAVES + 1]);
-    handed.back
+) -> Added {
+    let mut parts = Parts::none();
+    let answer = answer_for(tables, how, profile, &old, &mut parts);
+    let handed = leaves::add(tables, profile, old);
+    let meant = answer.is_ok().then_some(&parts);
+    let is_record = is_record(&handed.back, &old, meant);
+    run.differences.expect(is_record, b"record", b"a profile");
+    let is_whole = whole_of(&parts.totals) == Some(parts.counts);
+    run.differences.expect(is_whole, b"parts", b"a profile");
+    run.leaves.add(0, parts.named);
+    run.leaves.add(1, parts.unnamed);
+    let number = run
+        .differences
+        .compare(&handed.answer, answer.map(|_| 0), b"a profile");
+    Added {
+        number,
+        record: handed.back,
+    }
 }
 
 // ---- shares
 
-// The thousandths of each total, rounded down, and the remainders, each with 1 more.
-fn round_down(totals: &[u64; 263], whole: u64, meant: &mut [u64; 263], rest: &mut [u64; 263]) {
-    if whole == 0 {
-        return;
-    }
-    for i in 0..257usize {
-        let t = 1000 * (totals[i] % 9007199254740992);
-        meant[i] = t / whole;
-        rest[i] = std::num::wrapping_add_u64(t % whole, 1);
-    }
+// The thousandths of each total, rounded down, and the remainders that are left.
+#[derive(Clone, Copy)]
+struct Dealt {
+    parts: [u64; 257],
+    rest: [Option<u64>; 257],
 }
 
-// The first place with the largest number, which is 0 then.
-fn take_largest(rest: &mut [u64; 263]) -> usize {
-    let mut best = 0;
-    for i in 0..257usize {
-        if at64(rest, best) < at64(rest, i) {
-            best = i;
+impl Dealt {
+    fn down(totals: &[u64; 257], whole: u64) -> Dealt {
+        let mut dealt = Dealt {
+            parts: [0; 257],
+            rest: [None; 257],
+        };
+        if whole != 0 {
+            for i in 0..257 {
+                let t = 1000 * (totals[i] % 9007199254740992);
+                dealt.parts[i] = t / whole;
+                dealt.rest[i] = Some(t % whole);
+            }
         }
+        dealt
     }
-    put64(rest, best, 0);
-    best
-}
 
-// What the shares add to.
-fn sum_for(whole: u64) -> u64 {
-    if whole == 0 || LIMIT < whole { 0 } else { 1000 }
-}
-
-// The thousandths that are missing go one each to the largest remainders that are left. Answers how many they were.
-fn share_out(totals: &[u64; 263], whole: u64, meant: &mut [u64; 263]) -> usize {
-    if sum_for(whole) == 0 {
-        return 0;
-    }
-    let mut rest = [0u64; 263];
-    round_down(totals, whole, meant, &mut rest);
-    let missing = above(1000, whole_of(meant) as usize);
-    for _ in 0..missing {
-        let i = take_largest(&mut rest);
-        add64(meant, i, 1);
-    }
-    missing
-}
-
-fn is_same(parts: &[u16; 257], meant: &[u64; 263]) -> bool {
-    for i in 0..257usize {
-        if medium(parts[i]) as u64 != meant[i] {
-            return false;
+    // One thousandth more for the first place with the largest remainder, which is none then.
+    fn give(&mut self) {
+        let mut best = 0;
+        let mut most = None;
+        for (i, rest) in self.rest.iter().enumerate() {
+            if most < *rest {
+                best = i;
+                most = *rest;
+            }
         }
+        self.rest[best] = None;
+        self.parts[best] = self.parts[best].wrapping_add(1);
     }
-    true
+
+    fn sum(&self) -> u64 {
+        whole_of(&self.parts).unwrap_or(LIMIT)
+    }
 }
 
-fn is_shared(record: LeafTotals, whole: u64, meant: &[u64; 263]) -> bool {
-    let got = leaves::shares_of(record);
-    let answer = got.answer;
-    let parts = got.parts;
-    let number = number_of_shares(whole);
-    answer.number() == number
-        && answer.value() == value_for(number, 0, meant)
-        && is_same(&parts, meant)
-        && whole_of(meant) == sum_for(whole)
-}
-
-// The shares of the record compared with those that are meant.
-pub fn shared(run: &mut [u64; 256], record: LeafTotals, kind: usize) {
-    let totals = flat(record);
+// The shares of the record compared with those that are meant: the thousandths that are missing go one each to the largest remainders that are left. Answers
+// the number that is meant.
+pub fn share(run: &mut Run, record: &LeafTotals) -> usize {
+    let totals = all_of(record);
     let whole = whole_of(&totals);
-    let mut meant = [0u64; 263];
-    let more = share_out(&totals, whole, &mut meant);
-    expect(run, is_shared(record, whole, &meant));
-    add64(run, plus(kind, number_of_shares(whole)), 1);
-    add64(run, report::MORE, more as u64);
+    let sum: u64 = match whole {
+        None | Some(0) => 0,
+        Some(_) => 1000,
+    };
+    let mut dealt = Dealt::down(&totals, whole.unwrap_or(0));
+    let missing = sum.saturating_sub(dealt.sum());
+    for _ in 0..missing {
+        dealt.give();
+    }
+    run.more.add(missing as usize);
+    let got = leaves::shares_of(*record);
+    let is_same = is_same(&got.parts, &dealt.parts) && dealt.sum() == sum;
+    run.differences.expect(is_same, b"parts", b"shares");
+    let meant = whole.map_or(Err(past()), |_| Ok(0));
+    run.differences.compare(&got.answer, meant, b"shares")
+}
+
+fn is_same(parts: &[u16; 257], meant: &[u64; 257]) -> bool {
+    parts
+        .iter()
+        .zip(meant)
+        .all(|(part, meant)| u64::from(*part) == *meant)
 }

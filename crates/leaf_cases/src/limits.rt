@@ -1,96 +1,88 @@
 // A record of 1,024 profiles and one more; records about the limit of the total, and from nowhere; and what is refused first. The book is the rule `a`, `b`,
 // and its tables are read themselves.
-use crate::compare::{LIMIT, added, shared};
-use crate::draw::write;
-use crate::safe::part;
-use crate::tables::Tables;
-use crate::{report, tables};
+use crate::compare::{self, LIMIT};
+use crate::report::Run;
+use drawn::{NO_ENTRY, Tables, part};
 use leaf_totals::LeafTotals;
+use lent::Machine;
 
 // The text is a, over and over, but for its first 10 bytes: they are a profile, which counts 5. With one byte more its second line is bad.
-pub fn all(run: &mut [u64; 256], text: &mut [u8; 1048577], book: &[u8]) {
-    let mut goto = [0u16; 16384];
-    let t = tables::built(book, &mut goto, 0, 0);
-    write(text, b"b;ab 3\nb 2");
-    full(run, t, &goto, part(text, 0, 10));
-    for c in 0..16usize {
-        case(run, t, &goto, text, c);
+pub fn all(run: &mut Run, text: &mut [u8; 1048577], book: &[u8]) {
+    text[..10].copy_from_slice(b"b;ab 3\nb 2");
+    if let Some(tables) = Tables::built(book) {
+        full(run, tables.machine(), part(text, 0, 10));
+        about(run, tables.machine(), part(text, 0, 10));
+        refused(run, &tables, text);
     }
 }
 
 // The last of 1,025 profiles is refused, and the record stays.
-fn full(run: &mut [u64; 256], t: Tables, goto: &[u16; 16384], profile: &[u8]) {
+fn full(run: &mut Run, tables: Machine<'_>, profile: &[u8]) {
     let mut record = LeafTotals::empty();
-    for _ in 0..1025usize {
-        record = added(run, t, goto, profile, record, report::ONE_RECORD);
+    for _ in 0..1025 {
+        let added = compare::add(run, &tables, &tables, profile, record);
+        run.one_record.one(added.number);
+        record = added.record;
     }
 }
 
-// A profile added to a record, and the shares of what that is then. In the last three cases row 0 has no entry for b: the leaf of the second line is lost,
-// and so would be the other frame of the first.
-fn case(run: &mut [u64; 256], t: Tables, goto: &[u16; 16384], text: &[u8; 1048577], c: usize) {
-    let mut now = t;
-    let mut other = *goto;
-    if 12 < c {
-        other[98] = 65535;
-    } else if 8 < c && c < 12 {
-        now.n = 0;
-    }
-    let profile = part(text, 0, size_of(c));
-    let back = added(run, now, &other, profile, record_of(c), report::LIMITS);
-    shared(run, back, report::LIMIT_SHARES);
-}
-
-// Cases 0 and 1: the profile reaches the limit, and passes it by one. 2 and 3: no line, at the limit and past it. 4 and 5: numbers from nowhere, of which
-// the last two wrap to 0. 6: nothing. 7 and 8: full. 9 to 14 are past the limit, each with fewer other reasons to be refused; 15 is accepted.
-fn record_of(c: usize) -> LeafTotals {
-    let each = if c == 4 { 18446744073709551615 } else { 0 };
-    let mut totals = [each; 256];
-    totals[0] = first_of(c);
+// A record with this total, 1000 unnamed and so many profiles.
+fn record(first: u64, profiles: usize) -> LeafTotals {
+    let mut totals = [0; 256];
+    totals[0] = first;
     LeafTotals {
         totals,
-        unnamed: unnamed_of(c),
-        profiles: profiles_of(c),
+        unnamed: 1000,
+        profiles,
     }
 }
 
-fn first_of(c: usize) -> u64 {
-    match c {
-        0 => LIMIT - 1005,
-        1 => LIMIT - 1004,
-        2 => LIMIT - 1000,
-        4 => 18446744073709551615,
-        5 => 9223372036854775808,
-        6 | 15 => 0,
-        _ => LIMIT - 999,
-    }
+// A profile added to a record, and the shares of what that is then.
+fn case(run: &mut Run, tables: Machine<'_>, profile: &[u8], old: LeafTotals) {
+    let added = compare::add(run, &tables, &tables, profile, old);
+    run.limits.one(added.number);
+    let number = compare::share(run, &added.record);
+    run.limit_shares.one(number);
 }
 
-fn unnamed_of(c: usize) -> u64 {
-    match c {
-        4 => 18446744073709551615,
-        5 => 9223372036854775808,
-        6 => 0,
-        _ => 1000,
-    }
+fn about(run: &mut Run, tables: Machine<'_>, profile: &[u8]) {
+    // The profile reaches the limit, and passes it by one.
+    case(run, tables, profile, record(LIMIT - 1005, 7));
+    case(run, tables, profile, record(LIMIT - 1004, 7));
+    // No line, at the limit and past it.
+    case(run, tables, b"", record(LIMIT - 1000, 1023));
+    case(run, tables, b"", record(LIMIT - 999, 7));
+    // Numbers from nowhere: the greatest, and two that wrap to 0.
+    let mut odd = record(u64::MAX, 7);
+    odd.totals = [u64::MAX; 256];
+    odd.unnamed = u64::MAX;
+    case(run, tables, b"", odd);
+    odd = record(9223372036854775808, 7);
+    odd.unnamed = 9223372036854775808;
+    case(run, tables, b"", odd);
+    // Nothing.
+    odd = record(0, 7);
+    odd.unnamed = 0;
+    case(run, tables, b"", odd);
+    // Full.
+    case(run, tables, profile, record(LIMIT - 999, 1024));
+    case(run, tables, profile, record(LIMIT - 999, usize::MAX));
 }
 
-fn profiles_of(c: usize) -> usize {
-    match c {
-        2 => 1023,
-        7 | 9 => 1024,
-        8 => 18446744073709551615,
-        _ => 7,
-    }
-}
-
-fn size_of(c: usize) -> usize {
-    match c {
-        0 | 1 | 7 | 8 | 14 => 10,
-        9 | 10 => 1048577,
-        11 | 12 => 1048576,
-        13 => 11,
-        15 => 6,
-        _ => 0,
-    }
+// Past the limit, each with fewer other reasons to be refused; the last is accepted. In the last three row 0 has no entry for b: the leaf of the second line
+// is lost, and so would be the other frame of the first.
+fn refused(run: &mut Run, tables: &Tables, text: &[u8; 1048577]) {
+    let past = record(LIMIT - 999, 7);
+    let mut other = *tables;
+    other.rows = 0;
+    case(run, other.machine(), text, record(LIMIT - 999, 1024));
+    case(run, other.machine(), text, past);
+    let longest = part(text, 0, 1048576);
+    case(run, other.machine(), longest, past);
+    case(run, tables.machine(), longest, past);
+    other = *tables;
+    other.goto[usize::from(b'b')] = NO_ENTRY;
+    case(run, other.machine(), part(text, 0, 11), past);
+    case(run, other.machine(), part(text, 0, 10), past);
+    case(run, other.machine(), part(text, 0, 6), record(0, 7));
 }

@@ -1,11 +1,15 @@
-// The record of leaf totals, and the answers to adding a profile to it, with the paper's numbers and values.
+// The record of leaf totals, and the refusals of a profile, with the paper's numbers and values.
 #![tactic(auto)]
 
 ghost use Rattle.std.specs.Prelude.{◌≡◌};
+ghost use Rattle.leaf_totals.specs.declared.AddRefusal.TheVariants.{BadLine as AddBadLine, Damaged as AddDamaged};
 ghost use Rattle.leaf_totals.specs.Record.{most_profiles, totals_in, empty_totals};
-ghost use Rattle.leaf_totals.specs.Totalled.{number_of, value_of};
+ghost use Rattle.leaf_totals.specs.Totalled.{refusal_number, refusal_value};
 
+use answers::Damaged;
 use book::Book;
+use lines::BadLine;
+use numbered::Numbered;
 use shares::{LIMIT, PLACES};
 
 // The most profiles of a record.
@@ -17,18 +21,6 @@ pub struct LeafTotals {
     pub totals: [u64; Book::RULES],
     pub unnamed: u64,
     pub profiles: usize,
-}
-
-// The answer of `add`. `number_of` and `value_of` of specs/ give each case's number and value.
-#[derive(Clone, Copy)]
-pub enum Totalled {
-    Accepted,
-    Full,
-    TooLong,
-    BadRows { rows: usize },
-    BadLine { at: usize },
-    Damaged { at: usize },
-    Past,
 }
 
 impl LeafTotals {
@@ -45,34 +37,57 @@ impl LeafTotals {
     }
 }
 
-impl Totalled {
-    // The paper's number of an answer.
-    pub fn number(self) -> usize
-        ensures { result ≡ number_of self }
-    {
+// Why a profile is refused.
+#[derive(Clone, Copy)]
+pub enum AddRefusal {
+    Full,
+    TooLong,
+    BadRows { rows: usize },
+    BadLine { at: usize },
+    Damaged { at: usize },
+    Past,
+}
+
+impl From<BadLine> for AddRefusal {
+    ghost from_gives = { λ l r. r ≡ AddBadLine l.at };
+
+    fn from(line: BadLine) -> AddRefusal {
+        AddRefusal::BadLine { at: line.at }
+    }
+}
+
+impl From<Damaged> for AddRefusal {
+    ghost from_gives = { λ d r. r ≡ AddDamaged d.at };
+
+    fn from(damage: Damaged) -> AddRefusal {
+        AddRefusal::Damaged { at: damage.at }
+    }
+}
+
+impl Numbered for AddRefusal {
+    ghost number_is = { refusal_number };
+
+    ghost value_is = { refusal_value };
+
+    fn number(&self) -> usize {
         match self {
-            Totalled::Accepted => 0,
-            Totalled::Full => 21,
-            Totalled::TooLong => 11,
-            Totalled::BadRows { rows: _ } => 12,
-            Totalled::BadLine { at: _ } => 15,
-            Totalled::Damaged { at: _ } => 13,
-            Totalled::Past => 20,
+            AddRefusal::Full => 21,
+            AddRefusal::TooLong => 11,
+            AddRefusal::BadRows { rows: _ } => 12,
+            AddRefusal::BadLine { at: _ } => 15,
+            AddRefusal::Damaged { at: _ } => 13,
+            AddRefusal::Past => 20,
         }
     }
 
-    // Its value.
-    pub fn value(self) -> u64
-        ensures { result ≡ value_of self }
-    {
+    fn value(&self) -> u64 {
         match self {
-            Totalled::Accepted => 0,
-            Totalled::Full => PROFILES as u64,
-            Totalled::TooLong => Book::TEXT as u64,
-            Totalled::BadRows { rows } => rows as u64,
-            Totalled::BadLine { at } => at as u64,
-            Totalled::Damaged { at } => at as u64,
-            Totalled::Past => LIMIT,
+            AddRefusal::Full => PROFILES as u64,
+            AddRefusal::TooLong => Book::TEXT as u64,
+            AddRefusal::BadRows { rows } => *rows as u64,
+            AddRefusal::BadLine { at } => *at as u64,
+            AddRefusal::Damaged { at } => *at as u64,
+            AddRefusal::Past => LIMIT,
         }
     }
 }
@@ -82,11 +97,7 @@ pub fn totals_of(old: LeafTotals) -> [u64; PLACES]
     ensures { result ≡ totals_in old }
 {
     let mut all: [u64; PLACES] = [0; PLACES];
-    let mut i: usize = 0;
-    while i < Book::RULES {
-        all[i] = old.totals[i];
-        i += 1;
-    }
+    all[..Book::RULES].copy_from_slice(&old.totals);
     all[Book::RULES] = old.unnamed;
     all
 }

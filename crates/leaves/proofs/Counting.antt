@@ -12,18 +12,18 @@ use Rattle.sets.specs.Sums.{sum_over}
 use Rattle.sets.proofs.Zeros.{zero_at}
 use Rattle.meaning.specs.Tables.{Five}
 use Rattle.book.specs.Limits.{most_bytes}
-use Rattle.lines.specs.declared.Pass.TheVariants.{Through, Ends}
-use Rattle.lines.specs.Lines.{lf, split, lines_of, up_to, on_pass, pass_over}
+use Rattle.std.specs.Prelude.{Result, Ok, Err, MatchResult}
+use Rattle.answers.specs.declared.Damaged.{Damaged}
+use Rattle.lines.specs.Lines.{lf, split, lines_of, up_to, Pass, on_pass, pass_over}
 use Rattle.lines.proofs.Lines.{piece, lines_step, lines_pass_lem, lines_end}
 use Rattle.lines.proofs.Counts.{counts-fit}
 use Rattle.book.specs.Content.{table}
 use Rattle.shares.specs.Shares.{all_places, amount_at}
 use Rattle.book.proofs.Tables.{is_table}
 use Rattle.leaf.specs.declared.Leaf.{Leaf}
-use Rattle.leaf.specs.declared.Leaf.TheVariants.{Counts}
-use Rattle.leaf.specs.Leaf.{line_leaf, on_leaf}
+use Rattle.leaf.specs.Leaf.{damaged, counts, line_leaf, on_leaf}
 use Rattle.leaves.specs.Totals.{leaf_pass, leaves_pass, line_adds, profile_adds}
-use Rattle.leaf.proofs.Place.{place-within}
+use Rattle.leaves.specs.Steps.{counted_lines}
 use Rattle.leaves.proofs.EachPlace.{adds-within}
 
 module _ (b : Five) (n : ℕ) (profile : List ℕ) where
@@ -54,20 +54,14 @@ module _ (b : Five) (n : ℕ) (profile : List ℕ) where
     unfolding sum_over
     rest_step p = ap (sum_over (line_adds b n p)) (lines_step profile at end l e m)
 
-    module _ {r : Leaf} {place count : ℕ} (w : r ≡ line_leaf b n (piece profile at end)) (q : r ≡ Counts place count) where
-      counts-there : line_leaf b n (piece profile at end) ≡ Counts place count
-      counts-there = sym w ∙ q
-
+    module _ {place count : ℕ} (w : counts place count ≡ line_leaf b n (piece profile at end)) (place-there : place < all_places) where
       own : line_adds b n place (piece profile at end) ≡ count
       unfolding line_adds
-      own = rw (counts-there, eq-eqb place place refl)
+      own = rw (← w, eq-eqb place place refl)
 
       other : (p : ℕ) → place ≢ p → line_adds b n p (piece profile at end) ≡ 0
       unfolding line_adds
-      other p d = rw (counts-there, ne_eqb place p d)
-
-      pub place-there : place < all_places
-      place-there = omega (arith, place-within b n (piece profile at end) counts-there)
+      other p d = rw (← w, ne_eqb place p d)
 
       pub count_fits : {parts : List ℕ} → length profile ≤ most_bytes → Counted at parts → get_or parts place 0 + count < 2 ^ 64
       count_fits short c = omega (arith, c.each place place-there, rest_step place, own, adds-within b n place profile, counts-fit profile short)
@@ -90,15 +84,17 @@ module _ (b : Five) (n : ℕ) (profile : List ℕ) where
           differs : (p : ℕ) → p < all_places → place ≢ p → amount_at more p + rest (end + 1) p ≡ profile_adds b n p profile
           differs p h d = omega (arith, get_or-set_other parts place p (get_or parts place 0 + count) 0 (λ z. d (sym z)), c.each p h, rest_step p, other p d)
 
-    here : {r q : Leaf} → r ≡ line_leaf b n (piece profile at end) → r ≡ q → leaf_pass b n at (piece profile at end) ≡ on_leaf q (λ place count. Through) (λ i. Ends (at + i))
-    unfolding leaf_pass
-    here w q = ap (λ x. on_leaf x (λ place count. Through) (λ i. Ends (at + i))) (sym w ∙ q)
-
     -- its part in the pass, where its leaf is q
-    pub leaf_turn : {r q : Leaf} → r ≡ line_leaf b n (piece profile at end) → r ≡ q → pass_over (leaf_pass b n) at (lines_of (drop at profile)) ≡ leaves_pass b n profile
-        → on_pass (on_leaf q (λ place count. Through) (λ i. Ends (at + i))) (pass_over (leaf_pass b n) (end + 1) (lines_of (drop (end + 1) profile))) ≡ leaves_pass b n profile
-    leaf_turn w q so =
-        sym (lines_pass_lem (leaf_pass b n) profile at end l e m ∙ ap (λ x. on_pass x (pass_over (leaf_pass b n) (end + 1) (lines_of (drop (end + 1) profile)))) (here w q)) ∙ so
+    pub leaf_turn : (q : Result Leaf Damaged) → q ≡ line_leaf b n (piece profile at end) → pass_over (leaf_pass b n) at (lines_of (drop at profile)) ≡ leaves_pass b n profile
+        → on_pass (on_leaf {A = Pass Damaged} q (λ place count. Ok tt) (λ i. damaged (at + i))) (pass_over (leaf_pass b n) (end + 1) (lines_of (drop (end + 1) profile))) ≡ leaves_pass b n profile
+    unfolding leaf_pass
+    leaf_turn q w so = rw w (sym (lines_pass_lem (leaf_pass b n) profile at end l e m) ∙ so)
 
-  pub leaves_end : {at : ℕ} → length profile ≤ at → pass_over (leaf_pass b n) at (lines_of (drop at profile)) ≡ leaves_pass b n profile → Through ≡ leaves_pass b n profile
+    -- the answer x where its walk fails
+    pub leaf_ends : (q : Result Leaf Damaged) {x : Result (List ℕ) Damaged} → q ≡ line_leaf b n (piece profile at end)
+        → pass_over (leaf_pass b n) at (lines_of (drop at profile)) ≡ leaves_pass b n profile → MatchResult q (λ l. ⊥) (λ d. x ≡ damaged (at + d.at)) → x ≡ counted_lines b n profile
+    leaf_ends (Ok k) w so h = absurd h
+    leaf_ends (Err d) w so h = rw (← leaf_turn (Err d) w so) h
+
+  pub leaves_end : {at : ℕ} → length profile ≤ at → pass_over (leaf_pass b n) at (lines_of (drop at profile)) ≡ leaves_pass b n profile → Ok tt ≡ leaves_pass b n profile
   leaves_end h so = sym (lines_end (leaf_pass b n) profile _ h) ∙ so

@@ -11,16 +11,16 @@ use lib.ListN.{length}
 use Rattle.sets.specs.Sums.{sum_over}
 use Rattle.sets.proofs.Sums.{sum_le}
 use Rattle.meaning.specs.Tables.{Five}
-use Rattle.lines.specs.declared.Pass.TheVariants.{Through, Ends}
-use Rattle.lines.specs.Lines.{lines_of, pass_over}
+use Rattle.std.specs.Prelude.{Result, Ok, Err}
+use Rattle.answers.specs.declared.Damaged.{Damaged}
+use Rattle.lines.specs.Lines.{lines_of, Pass, pass_over}
 use Rattle.lines.specs.Profile.{count_in, counts}
-use Rattle.lines.proofs.First.{not_through, both-through}
+use Rattle.lines.proofs.First.{both-through}
 use Rattle.shares.specs.Below.{sum_below}
 use Rattle.shares.specs.Shares.{all_places}
 use Rattle.shares.proofs.Below.{sum_plus, zeros-below}
 use Rattle.leaf.specs.declared.Leaf.{Leaf}
-use Rattle.leaf.specs.declared.Leaf.TheVariants.{Counts, Fails}
-use Rattle.leaf.specs.Leaf.{line_leaf, on_leaf}
+use Rattle.leaf.specs.Leaf.{damaged, line_leaf, on_leaf}
 use Rattle.leaves.specs.Totals.{leaf_pass, leaves_pass, line_adds, profile_adds}
 use Rattle.leaf.proofs.Place.{OnePlace, line_placed}
 
@@ -35,9 +35,9 @@ module _ (b : Five) (n : ℕ) where
       some true c = omega arith
       some false c = omega arith
 
-      go : (l : Leaf) → OnePlace (count_in line) l → on_leaf l (λ place count. cond (eqb place p) count 0) (λ i. 0) ≤ count_in line
-      go (Counts place count) h = omega (arith, some (eqb place p) count, h.1)
-      go (Fails at) h = omega arith
+      go : (l : Result Leaf Damaged) → OnePlace (count_in line) l → on_leaf l (λ place count. cond (eqb place p) count 0) (λ i. 0) ≤ count_in line
+      go (Ok l) h = omega (arith, some (eqb l.place p) l.count, h.1)
+      go (Err d) h = omega arith
 
   pub adds-within : (p : ℕ) (profile : List ℕ) → profile_adds b n p profile ≤ counts profile
   unfolding profile_adds
@@ -64,16 +64,16 @@ module _ (q c : ℕ) where
 -- ---- a pass that gets through adds all the counts
 
 module _ (b : Five) (n : ℕ) where
-  line_adds-all : (at : ℕ) (line : List ℕ) → leaf_pass b n at line ≡ Through → sum_below (λ p. line_adds b n p line) all_places ≡ count_in line
+  line_adds-all : (at : ℕ) (line : List ℕ) → leaf_pass b n at line ≡ Ok tt → sum_below (λ p. line_adds b n p line) all_places ≡ count_in line
   unfolding leaf_pass line_adds
   line_adds-all at line = go (line_leaf b n line) (line_placed b n line)
     where
-      go : (l : Leaf) → OnePlace (count_in line) l → on_leaf l (λ place count. Through) (λ i. Ends (at + i)) ≡ Through
+      go : (l : Result Leaf Damaged) → OnePlace (count_in line) l → on_leaf {A = Pass Damaged} l (λ place count. Ok tt) (λ i. damaged (at + i)) ≡ Ok tt
           → sum_below (λ p. on_leaf l (λ place count. cond (eqb place p) count 0) (λ i. 0)) all_places ≡ count_in line
-      go (Counts place count) h e = one_below place count all_places (omega (arith, h.0)) ∙ h.1
-      go (Fails i) h e = not_through e
+      go (Ok l) h e = one_below l.place l.count all_places (omega (arith, h.0)) ∙ h.1
+      go (Err d) h e = cc
 
-  lines_add_all : (ls : List (List ℕ)) (at : ℕ) → pass_over (leaf_pass b n) at ls ≡ Through → sum_below (λ p. sum_over (line_adds b n p) ls) all_places ≡ sum_over count_in ls
+  lines_add_all : (ls : List (List ℕ)) (at : ℕ) → pass_over (leaf_pass b n) at ls ≡ Ok tt → sum_below (λ p. sum_over (line_adds b n p) ls) all_places ≡ sum_over count_in ls
   unfolding pass_over sum_over
   lines_add_all [] at e = zeros-below (λ p. 0) all_places (λ p l. refl)
   lines_add_all (l ∷ ls) at e =
@@ -81,6 +81,6 @@ module _ (b : Five) (n : ℕ) where
       sum_plus (λ p. line_adds b n p l) (λ p. sum_over (line_adds b n p) ls) all_places
       ∙ ap₂ ◌+◌ (line_adds-all at l here) (lines_add_all ls (at + length l + 1) rest)
 
-  pub adds-to-counts : (profile : List ℕ) → leaves_pass b n profile ≡ Through → sum_below (λ p. profile_adds b n p profile) all_places ≡ counts profile
+  pub adds-to-counts : (profile : List ℕ) → leaves_pass b n profile ≡ Ok tt → sum_below (λ p. profile_adds b n p profile) all_places ≡ counts profile
   unfolding leaves_pass profile_adds
   adds-to-counts profile e = lines_add_all (lines_of profile) 0 e

@@ -1,31 +1,30 @@
 -- Leaf totals: what a profile adds to each family, the record, and the answer of a call. Assumes nothing.
-use Rattle.std.specs.Prelude.{cond, List, ℕ, ◌+◌, leb, ltb, eqb, length}
+use Rattle.std.specs.Prelude.{cond, Ok, Err, List, ℕ, ◌+◌, leb, ltb, eqb, length}
 use Rattle.sets.specs.Sums.{sum_over}
 use Rattle.meaning.specs.Tables.{Five}
 use Rattle.book.specs.Limits.{most_rules, most_bytes}
 use Rattle.lent.specs.Lent.{has_rows}
-use Rattle.lines.specs.declared.Pass.{Pass}
-use Rattle.lines.specs.declared.Pass.TheVariants.{Through, Ends}
-use Rattle.lines.specs.Lines.{lines_of, pass_over, check_of}
+use Rattle.answers.specs.declared.Damaged.{Damaged}
+use Rattle.lines.specs.Lines.{lines_of, Pass, pass_over, check_of}
 use Rattle.lines.specs.Profile.{counts}
 use Rattle.shares.specs.declared.Shares.{Shares}
 use Rattle.book.specs.Content.{table}
 use Rattle.shares.specs.Shares.{limit, shares_of}
 use Rattle.leaf_totals.specs.declared.LeafTotals.{LeafTotals}
-use Rattle.leaf_totals.specs.declared.Totalled.{Totalled}
-use Rattle.leaf_totals.specs.declared.Totalled.TheVariants.{Accepted, Full, TooLong, BadRows, BadLine, Damaged, Past}
+use Rattle.leaf_totals.specs.declared.AddRefusal.{AddRefusal}
+use Rattle.leaf_totals.specs.declared.AddRefusal.TheVariants as add
 use Rattle.leaf_totals.specs.Record.{most_profiles, total_at, totals_in, whole_in}
 use Rattle.leaves.specs.declared.Handed.{Handed}
-use Rattle.leaf.specs.Leaf.{unnamed, line_leaf, on_leaf}
+use Rattle.leaf.specs.Leaf.{damaged, unnamed, line_leaf, on_leaf}
 
 -- ---- a profile
 
 module _ (b : Five) (n : ℕ) where
   -- A walk that fails ends the pass at the byte's offset in the profile.
-  unfoldable pub leaf_pass : ℕ → List ℕ → Pass
-  leaf_pass at line = on_leaf (line_leaf b n line) (λ place count. Through) (λ i. Ends (at + i))
+  unfoldable pub leaf_pass : ℕ → List ℕ → Pass Damaged
+  leaf_pass at line = on_leaf (line_leaf b n line) (λ place count. Ok tt) (λ i. damaged (at + i))
 
-  unfoldable pub leaves_pass : List ℕ → Pass
+  unfoldable pub leaves_pass : List ℕ → Pass Damaged
   leaves_pass profile = pass_over leaf_pass 0 (lines_of profile)
 
   -- what a line adds to a place: its count, where its leaf belongs there
@@ -44,31 +43,26 @@ with_parts t part = record { totals = table most_rules (λ k. total_at t k + par
 
 -- ---- a call
 
--- f of the offset where a pass ends, or what is next
-abbrev pub after_pass : Pass → (ℕ → Totalled) → Totalled → Totalled
-after_pass (Ends at) f next = f at
-after_pass Through f next = next
+-- f of the end of a pass, or what is next
+abbrev pub after_pass : {E : Type 0} → Pass E → (E → AddRefusal) → Pass AddRefusal → Pass AddRefusal
+after_pass (Err e) f next = Err (f e)
+after_pass (Ok u) f next = next
 
 -- The answer: every line is judged before a leaf is walked, and every leaf is walked before the limit is asked for.
-unfoldable pub add_answer : Five → ℕ → List ℕ → LeafTotals → Totalled
+unfoldable pub add_answer : Five → ℕ → List ℕ → LeafTotals → Pass AddRefusal
 add_answer b n profile t =
-    cond (leb most_profiles t.profiles) Full
-    (cond (ltb most_bytes (length profile)) TooLong
+    cond (leb most_profiles t.profiles) (Err add.Full)
+    (cond (ltb most_bytes (length profile)) (Err add.TooLong)
     (cond (has_rows b n)
-    (after_pass (check_of profile) (λ at. BadLine at)
-    (after_pass (leaves_pass b n profile) (λ at. Damaged at)
-    (cond (ltb limit (whole_in t + counts profile)) Past Accepted)))
-    (BadRows n)))
+    (after_pass (check_of profile) (λ l. add.BadLine l.at)
+    (after_pass (leaves_pass b n profile) (λ d. add.Damaged d.at)
+    (cond (ltb limit (whole_in t + counts profile)) (Err add.Past) (Ok tt))))
+    (Err (add.BadRows n))))
 
 -- The record after an answer: a refusal hands it back as it was.
-abbrev pub record_after : Totalled → LeafTotals → (ℕ → ℕ) → LeafTotals
-record_after Accepted t part = with_parts t part
-record_after Full t part = t
-record_after TooLong t part = t
-record_after (BadRows rows) t part = t
-record_after (BadLine at) t part = t
-record_after (Damaged at) t part = t
-record_after Past t part = t
+abbrev pub record_after : Pass AddRefusal → LeafTotals → (ℕ → ℕ) → LeafTotals
+record_after (Ok u) t part = with_parts t part
+record_after (Err e) t part = t
 
 abbrev pub add_of : Five → ℕ → List ℕ → LeafTotals → Handed
 add_of b n profile t =

@@ -4,6 +4,8 @@ use Rattle.std.proofs.lemmas.List.Edits.{sets}
 use Rattle.sets.specs.Table.{row_words}
 use Rattle.meaning.specs.Tables.{Five}
 use Rattle.book.specs.Limits.{most_rows}
+use Rattle.lent.specs.declared.Machine.{Machine}
+use Rattle.lent.specs.declared.Buffers.{Buffers}
 
 -- From the tables' lengths: goto has 256 entries a row, live and out have a row's words. Never more than the limit.
 abbrev pub lent_of : ℕ → ℕ → ℕ → ℕ → ℕ → ℕ
@@ -12,13 +14,21 @@ lent_of goto fall held live out = min (goto / 256) (min fall (min held (min (liv
 abbrev pub five : List ℕ → List ℕ → List ℕ → List ℕ → List ℕ → Five
 five g f h l o = record { goto = g; fall = f; held = h; live = l; out = o }
 
--- the five that a function is lent, as they were when it was called
-abbrev pub given : List ℕ → List ℕ → List ℕ → List ℕ → List ℕ → Five
-given goto fall held live out = five goto fall held live out
+-- the five that are lent to be walked over
+abbrev pub tables_of : Machine → Five
+tables_of m = five m.goto.now m.fall.now m.held.now m.live.now m.out.now
 
--- and as they are left when it returns
-abbrev pub returned : List ℕ → List ℕ → List ℕ → List ℕ → List ℕ → Five
-returned goto fall held live out = five goto fall held live out
+-- the five that are lent to be filled
+abbrev pub buffers_of : Buffers → Five
+buffers_of b = five b.goto.now b.fall.now b.held.now b.live.now b.out.now
+
+-- they are the same buffers, whatever is in them
+pub record IsSame (old new : Buffers) : Type 0 where
+  pub goto_same : new.goto.ghost_name ≡ old.goto.ghost_name
+  pub fall_same : new.fall.ghost_name ≡ old.fall.ghost_name
+  pub held_same : new.held.ghost_name ≡ old.held.ghost_name
+  pub live_same : new.live.ghost_name ≡ old.live.ghost_name
+  pub out_same : new.out.ghost_name ≡ old.out.ghost_name
 
 -- the rows lent
 abbrev pub lent : Five → ℕ

@@ -1,89 +1,103 @@
-// The five buffers that are lent: the rows that they lend and whether so many are, zeros in every entry, a set stored in a row.
+// The five tables: lent to be walked over, with the rows that count, or to be filled. The rows that they lend, zeros in every entry, a set stored in a row.
 #![tactic(auto)]
 
-ghost use Rattle.std.specs.Prelude.{◌≡◌, min};
-ghost use Rattle.lent.specs.Lent.{lent_of, given, has_rows, zeros, stored_row};
+ghost use Rattle.std.specs.Prelude.{◌≡◌};
+ghost use Rattle.lent.specs.Lent.{lent_of, lent, tables_of, buffers_of, has_rows, zeroed, IsSame, stored_row};
 
 use book::Book;
 use words::WORDS;
 
-fn least(a: usize, b: usize) -> usize
-    ensures { result ≡ min a b }
-{
-    if a < b { a } else { b }
-}
+// The entry that says: fall back. A number, as the paper fixes what goto holds.
+pub const NO_ENTRY: u16 = 65535;
 
-// The rows that tables of these lengths lend.
+// The rows lent by tables of these lengths.
 pub fn rows_lent(goto: usize, fall: usize, held: usize, live: usize, out: usize) -> usize
     ensures { result ≡ lent_of goto fall held live out }
 {
-    let sets = least(live / WORDS, least(out / WORDS, Book::ROWS));
-    least(goto / 256, least(fall, least(held, sets)))
+    let sets = (live / WORDS).min(out / WORDS).min(Book::ROWS);
+    (goto / 256).min(fall).min(held).min(sets)
 }
 
-// Whether the tables lend n rows, and n is not 0.
-pub fn has_rows(
-    goto: &[u16],
-    fall: &[u16],
-    held: &[u8],
-    live: &[u64],
-    out: &[u64],
-    n: usize,
-) -> bool
-    ensures { result ≡ has_rows (given goto.now fall.now held.now live.now out.now) n }
-{
-    if n == 0 {
-        return false;
+// Five tables to be walked over, and N: the first so many rows count.
+#[derive(Clone, Copy)]
+pub struct Machine<'a> {
+    pub goto: &'a [u16],
+    pub fall: &'a [u16],
+    pub held: &'a [u8],
+    pub live: &'a [u64],
+    pub out: &'a [u64],
+    pub rows: usize,
+}
+
+impl Machine<'_> {
+    // Whether the tables lend so many rows, and these are not none.
+    pub fn has_rows(&self) -> bool
+        ensures { result ≡ has_rows (tables_of self.now) self.now.rows }
+    {
+        if self.rows == 0 {
+            return false;
+        }
+        self.rows <= self.lent()
     }
-    n <= rows_lent(goto.len(), fall.len(), held.len(), live.len(), out.len())
-}
 
-fn zero16(numbers: &mut [u16])
-    ensures { numbers.new ≡ zeros numbers.old }
-{
-    let mut i = 0;
-    while i < numbers.len() {
-        numbers[i] = 0;
-        i += 1;
-    }
-}
-
-fn zero8(bytes: &mut [u8])
-    ensures { bytes.new ≡ zeros bytes.old }
-{
-    let mut i = 0;
-    while i < bytes.len() {
-        bytes[i] = 0;
-        i += 1;
-    }
-}
-
-fn zero64(words: &mut [u64])
-    ensures { words.new ≡ zeros words.old }
-{
-    let mut i = 0;
-    while i < words.len() {
-        words[i] = 0;
-        i += 1;
+    // The rows that the tables lend.
+    pub fn lent(&self) -> usize
+        ensures { result ≡ lent (tables_of self.now) }
+    {
+        rows_lent(
+            self.goto.len(),
+            self.fall.len(),
+            self.held.len(),
+            self.live.len(),
+            self.out.len(),
+        )
     }
 }
 
-// Every entry of the five tables 0.
-pub fn zero_all(
-    goto: &mut [u16],
-    fall: &mut [u16],
-    held: &mut [u8],
-    live: &mut [u64],
-    out: &mut [u64],
-)
-    ensures { (goto.new ≡ zeros goto.old) × (fall.new ≡ zeros fall.old) × (held.new ≡ zeros held.old)
-        × (live.new ≡ zeros live.old) × (out.new ≡ zeros out.old) }
-{
-    zero16(goto);
-    zero16(fall);
-    zero8(held);
-    zero64(live);
-    zero64(out);
+// Five buffers to be filled. Each function that fills them says that they are the same five (IsSame): so the caller's slices are known.
+#[derive(Drop)]
+pub struct Buffers<'a> {
+    pub goto: &'a mut [u16],
+    pub fall: &'a mut [u16],
+    pub held: &'a mut [u8],
+    pub live: &'a mut [u64],
+    pub out: &'a mut [u64],
+}
+
+impl Buffers<'_> {
+    // The five as tables, of which so many rows count.
+    pub fn machine(&self, rows: usize) -> Machine<'_>
+        ensures tables { tables_of result ≡ buffers_of self.now }
+        ensures rows { result.rows ≡ rows }
+    {
+        Machine {
+            goto: self.goto,
+            fall: self.fall,
+            held: self.held,
+            live: self.live,
+            out: self.out,
+            rows,
+        }
+    }
+
+    // The rows that the buffers lend.
+    pub fn lent(&self) -> usize
+        ensures { result ≡ lent (buffers_of self.now) }
+    {
+        self.machine(0).lent()
+    }
+
+    // Every entry 0.
+    pub fn zero(&mut self)
+        ensures zeros { buffers_of self.new ≡ zeroed (buffers_of self.old) }
+        ensures same { IsSame self.old self.new }
+    {
+        self.goto.fill(0);
+        self.fall.fill(0);
+        self.held.fill(0);
+        self.live.fill(0);
+        self.out.fill(0);
+    }
 }
 
 // The words of a set in row n of a table. Where there is no such row, or the words are not a row's, the table stays as it was.
@@ -97,9 +111,5 @@ pub fn store(table: &mut [u64], n: usize, set: &[u64])
         return;
     }
     let start = WORDS * n;
-    let mut i: usize = 0;
-    while i < WORDS {
-        table[start + i] = set[i];
-        i += 1;
-    }
+    table[start..start + WORDS].copy_from_slice(set);
 }

@@ -1,11 +1,11 @@
 -- The cases by bytes, by computation. Assumes nothing.
 use mathlib.Core.Path.{refl}
 use Rattle.sets.specs.Sums.{sum_over}
-use Rattle.lines.specs.Lines.{split, last_from, pass_over, number_from, count_of, line_of, line_check, check_of}
+use Rattle.lines.specs.Lines.{split, last_mark_of, pass_over, number_from, count_of, line_of, line_check, check_of}
 use Rattle.lines.specs.ByBytes.{ByBytes}
 
 pub by_bytes : ByBytes
-unfolding sum_over split last_from pass_over number_from count_of line_of line_check check_of
+unfolding sum_over split last_mark_of pass_over number_from count_of line_of line_check check_of
 by_bytes = record {
   lines = record { none = refl; two = refl; ended = refl; empty = refl; others = refl };
   frames = record { two = refl; last = refl; empty = refl; others = refl; line = refl };

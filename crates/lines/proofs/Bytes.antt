@@ -6,8 +6,8 @@ use lib.Dec.{eqb}
 use lib.ListN.{get_or, take}
 use Rattle.rows.specs.Rows.{ByteText}
 use Rattle.rows.proofs.Bytes.{no_byte, byte_cons, bytes_take}
+use Rattle.std.specs.Prelude.{Option, Some, None}
 use Rattle.lines.specs.declared.Line.{Line}
-use Rattle.lines.specs.declared.Line.TheVariants.{Sound, Broken}
 use Rattle.lines.specs.Lines.{lf, semicolon, joined, split, lines_of, frames_of, line_of, on_line}
 use Rattle.lines.specs.Profile.{frames_in, frame_at}
 
@@ -42,9 +42,9 @@ lines-bytes profile b = pieces_bytes lf [] no_piece profile b
 pub frames-bytes : (line : List ℕ) → ByteText line → EachBytes (frames_in line)
 frames-bytes line b = go (line_of line)
   where
-    go : (l : Line) → EachBytes (on_line l (λ stack count. frames_of (take stack line)) [])
-    go (Sound stack count) = pieces_bytes semicolon ([] ∷ []) (one_more [] [] no_byte no_piece) (take stack line) (bytes_take stack line b)
-    go Broken = no_piece
+    go : (l : Option Line) → EachBytes (on_line l (λ stack count. frames_of (take stack line)) [])
+    go (Some l) = pieces_bytes semicolon ([] ∷ []) (one_more [] [] no_byte no_piece) (take l.stack line) (bytes_take l.stack line b)
+    go None = no_piece
 
 pub frame_bytes : (profile : List ℕ) → ByteText profile → (i j : ℕ) → ByteText (frame_at profile i j)
 frame_bytes profile b i j = frames-bytes (get_or (lines_of profile) i []) (lines-bytes profile b i) j

@@ -3,105 +3,105 @@ use Prim.Native.Nat.{ℕ, suc, ◌+◌, ◌-◌, ◌*◌, ◌≤◌, ◌<◌}
 use mathlib.Core.Bool.{Bool, true, false, cond, ◌&&◌}
 use mathlib.Core.List.{List, [], ◌∷◌}
 use mathlib.Core.Logic.{◌⊎◌, inl, inr, ⊎_elim}
-use mathlib.Core.Path.{◌≡◌, refl, ap, ◌∙◌}
+use mathlib.Core.Path.{◌≡◌, refl, sym, ap}
 use native.Mathlib.Nat.{zero-add, eq-or-lt_of_le}
 use native.Mathlib.Numerals.{add-one}
 use native.Mathlib.Omega.{arith}
-use borrow.Author.Tests.{eq-eqb, ne_eqb, lt-ltb, le-leb, lt-leb}
+use borrow.Author.Tests.{eq-eqb, ne_eqb, lt-ltb, le-ltb}
 use lib.Dec.{leb, eqb}
 use lib.ListN.{length, get_or, take, drop, length-append, length-take, length-drop, drop_of_length-le}
 use lib.Seq.{drop-cons, drop-drop, take_all}
 use Rattle.sets.specs.Sums.{sum_over}
-use Rattle.lines.specs.declared.Count.TheVariants.{Is, Not}
+use Rattle.std.specs.Prelude.{Option, Some, None, Ok, MatchOption, unwrap_or, ◌≢◌}
+use Rattle.std.specs.Char.{is_ascii_digit}
+use Rattle.std.specs.List.{AllWithin, HoldsAt}
+use Rattle.std.proofs.lemmas.Iterator.{index_from_first}
 use Rattle.lines.specs.declared.Line.{Line}
-use Rattle.lines.specs.declared.Line.TheVariants.{Sound, Broken}
-use Rattle.lines.specs.declared.Pass.{Pass}
-use Rattle.lines.specs.declared.Pass.TheVariants.{Through}
-use Rattle.lines.specs.Lines.{lf, space, most_count, joined, split, lines_of, up_to, on_pass, pass_over, number_from, limited, last_from, line_of, on_line}
+use Rattle.lines.specs.Lines.{lf, space, most_count, joined, split, lines_of, up_to, Pass, on_pass, pass_over, number_from, limited, count_of, line_of, on_line}
 use Rattle.lines.specs.Profile.{count_in}
 use Rattle.lines.proofs.Written.{LineTells, line_tells}
 
 -- ---- the first mark
 
-module _ (mark : ℕ) (text : List ℕ) (at : ℕ) where
-  pub up_here : at < length text → get_or text at 0 ≡ mark → up_to mark (drop at text) ≡ 0
-  unfolding up_to
-  up_here h e = rw (drop-cons text at 0, eq-eqb _ _ e)
+-- i is the first place of a mark, or no place is one
+abbrev pub FirstAt : ℕ → List ℕ → Option ℕ → Type 0
+FirstAt mark s r = MatchOption r (AllWithin (λ c. c ≢ mark) s 0 (length s)) (λ i. (i < length s) × HoldsAt (λ c. c ≡ mark) s i × AllWithin (λ c. c ≢ mark) s 0 i)
 
-  pub up_more : at < length text → (get_or text at 0 ≡ mark → ⊥) → up_to mark (drop at text) ≡ suc (up_to mark (drop (at + 1) text))
-  unfolding up_to
-  up_more h e = rw (drop-cons text at 0, ne_eqb _ _ e, add-one at)
+pub first_is : (mark : ℕ) (s : List ℕ) (r : Option ℕ) → FirstAt mark s r → unwrap_or r (length s) ≡ up_to mark s
+unfolding up_to
+first_is mark s r h =
+    sym (
+    index_from_first (up_to mark) (λ c. c ≡ mark) (λ c. c ≢ mark) refl (λ c s e. rw (eq-eqb c mark e)) (λ c s n. rw (ne_eqb c mark n, add-one (up_to mark s))) s r h
+    )
 
-  pub up_end : length text ≤ at → up_to mark (drop at text) ≡ 0
-  unfolding up_to
-  up_end h = rw drop_of_length-le
-
--- ---- the last mark
-
-module _ (mark : ℕ) (text : List ℕ) (at last : ℕ) where
-  pub last_more : {b : Bool} → at < length text → eqb (get_or text at 0) mark ≡ b → last_from mark at last (drop at text) ≡ last_from mark (at + 1) (cond b at last) (drop (at + 1) text)
-  unfolding last_from
-  last_more h e =
-      ap (last_from mark at last) (drop-cons text at 0 h) ∙ ap (λ b. last_from mark (at + 1) (cond b at last) (drop (suc at) text)) e ∙ rw (add-one at)
-
-  pub last_end : length text ≤ at → last_from mark at last (drop at text) ≡ last
-  unfolding last_from
-  last_end h = rw drop_of_length-le
+pub up_le : (mark : ℕ) (s : List ℕ) → up_to mark s ≤ length s
+unfolding up_to
+up_le mark [] = omega arith
+up_le mark (c ∷ s) = go (eqb c mark) (up_le mark s)
+  where
+    go : (b : Bool) → up_to mark s ≤ length s → cond b 0 (suc (up_to mark s)) ≤ suc (length s)
+    go true h = omega arith
+    go false h = omega arith
 
 -- ---- a count
 
+-- 1 to 10 bytes without a leading zero
+pub judged : (s : List ℕ) → length s ≢ 0 → length s ≤ 10 → get_or s 0 0 ≢ 48 → count_of s ≡ limited (number_from 0 s)
+unfolding count_of
+judged s n h z = rw (ne_eqb _ _ n, le-ltb 10 _ h, ne_eqb _ _ z)
+
 -- a number over the limit stays over it
-pub over : (s : List ℕ) (so : ℕ) → most_count < so → limited (number_from so s) ≡ Not
+pub over : (s : List ℕ) (so : ℕ) → most_count < so → limited (number_from so s) ≡ None
 unfolding number_from
 over [] so h = rw (lt-ltb _ _ h)
 over (c ∷ s) so h = go (leb 48 c && leb c 57) (over s (10 * so + (c - 48)) (omega arith))
   where
-    go : (b : Bool) → limited (number_from (10 * so + (c - 48)) s) ≡ Not → limited (cond b (number_from (10 * so + (c - 48)) s) Not) ≡ Not
+    go : (b : Bool) → limited (number_from (10 * so + (c - 48)) s) ≡ None → limited (cond b (number_from (10 * so + (c - 48)) s) None) ≡ None
     go true h = h
     go false h = refl
 
 module _ (s : List ℕ) (at so : ℕ) where
-  pub number_end : length s ≤ at → number_from so (drop at s) ≡ Is so
+  pub number_end : length s ≤ at → number_from so (drop at s) ≡ Some so
   unfolding number_from
   number_end h = rw drop_of_length-le
 
-  pub number_low : at < length s → get_or s at 0 < 48 → number_from so (drop at s) ≡ Not
+  pub number_other : at < length s → is_ascii_digit (get_or s at 0) ≡ false → number_from so (drop at s) ≡ None
   unfolding number_from
-  number_low h l = rw (drop-cons s at 0, lt-leb _ _ l)
+  number_other h e = rw (drop-cons s at 0, e)
 
-  pub number_high : at < length s → 48 ≤ get_or s at 0 → 57 < get_or s at 0 → number_from so (drop at s) ≡ Not
+  pub number_more : at < length s → is_ascii_digit (get_or s at 0) ≡ true → number_from so (drop at s) ≡ number_from (10 * so + (get_or s at 0 - 48)) (drop (at + 1) s)
   unfolding number_from
-  number_high h l g = rw (drop-cons s at 0, le-leb _ _ l, lt-leb _ _ g)
-
-  pub number_more : at < length s → 48 ≤ get_or s at 0 → get_or s at 0 ≤ 57 → number_from so (drop at s) ≡ number_from (10 * so + (get_or s at 0 - 48)) (drop (at + 1) s)
-  unfolding number_from
-  number_more h l g = rw (drop-cons s at 0, le-leb _ _ l, le-leb _ _ g, add-one at)
+  number_more h e = rw (drop-cons s at 0, e, add-one at)
 
 -- ---- a line
 
 -- a stack is a part of its line, which goes on, and its count a small one
-abbrev pub Right : List ℕ → Line → Type 0
-Right line (Sound stack count) = (stack < length line) × (count ≤ most_count)
-Right line Broken = Unit {0}
+abbrev pub Right : List ℕ → Option Line → Type 0
+Right line (Some l) = (l.stack < length line) × (l.count ≤ most_count)
+Right line None = Unit {0}
 
-tells_right : (line : List ℕ) (l : Line) → LineTells line l → Right line l
-tells_right line (Sound n k) (stack, digits, x, e) = (omega (arith, ap length x.whole, length-append stack (space ∷ digits)), x.count.small)
-tells_right line Broken x = tt
+tells_right : (line : List ℕ) (l : Option Line) → LineTells line l → Right line l
+tells_right line (Some l) (stack, digits, x, e) = (omega (arith, ap length x.whole, length-append stack (space ∷ digits)), x.count.small)
+tells_right line None x = tt
 
 line_right : (line : List ℕ) → Right line (line_of line)
 line_right line = tells_right line (line_of line) (line_tells line)
 
 -- what a line r that is q tells
-pub line_is : (line : List ℕ) {r q : Line} → r ≡ line_of line → r ≡ q → Right line q × (line_of line ≡ q)
+pub line_is : (line : List ℕ) {r q : Option Line} → r ≡ line_of line → r ≡ q → Right line q × (line_of line ≡ q)
 line_is line p q = (rw (← q, p) (line_right line), rw (← p) q)
+
+-- a stack is shorter than its line
+pub stack_within : (line : List ℕ) (l : Line) → Some l ≡ line_of line → l.stack < length line
+stack_within line l e = (line_is line e refl).0.0
 
 -- its count is small, and 0 where the line has no byte
 pub count_right : (line : List ℕ) → (count_in line ≤ most_count) × (count_in line ≤ most_count * length line)
 count_right line = go (line_of line) (line_right line)
   where
-    go : (l : Line) → Right line l → (on_line l (λ stack count. count) 0 ≤ most_count) × (on_line l (λ stack count. count) 0 ≤ most_count * length line)
-    go (Sound stack count) w = (w.1, omega (arith, w.0, w.1))
-    go Broken w = (omega arith, omega arith)
+    go : (l : Option Line) → Right line l → (on_line l (λ stack count. count) 0 ≤ most_count) × (on_line l (λ stack count. count) 0 ≤ most_count * length line)
+    go (Some l) w = (w.1, omega (arith, w.0, w.1))
+    go None w = (omega arith, omega arith)
 
 -- ---- pieces
 
@@ -179,8 +179,8 @@ module _ (mark : ℕ) (none : List (List ℕ)) (same : (c : ℕ) → joined c no
       (λ (z : end < length text). inl (rw (p, r, ← drop-drop (suc u) at text) (found mark none (drop at text) (omega arith))))
       (eq-or-lt_of_le l)
 
-  module _ (each : ℕ → List ℕ → Pass) (quiet : (i : ℕ) → pass_over each i none ≡ Through) (text : List ℕ) where
-    pub pieces_end : (i at : ℕ) → length text ≤ at → pass_over each i (split mark none (drop at text)) ≡ Through
+  module _ {E : Type 0} (each : ℕ → List ℕ → Pass E) (quiet : (i : ℕ) → pass_over each i none ≡ Ok tt) (text : List ℕ) where
+    pub pieces_end : (i at : ℕ) → length text ≤ at → pass_over each i (split mark none (drop at text)) ≡ Ok tt
     unfolding split
     pieces_end i at h = rw drop_of_length-le (quiet i)
 
@@ -207,8 +207,8 @@ lines_step text at end h e l = go (step lf [] (λ c. refl) text at end h e l)
     go (inl s) = s
     go (inr s) = rw (s.0, s.1)
 
-module _ (each : ℕ → List ℕ → Pass) (text : List ℕ) where
-  pub lines_end : (at : ℕ) → length text ≤ at → pass_over each at (lines_of (drop at text)) ≡ Through
+module _ {E : Type 0} (each : ℕ → List ℕ → Pass E) (text : List ℕ) where
+  pub lines_end : (at : ℕ) → length text ≤ at → pass_over each at (lines_of (drop at text)) ≡ Ok tt
   unfolding pass_over
   lines_end at h = pieces_end lf [] (λ c. refl) each (λ i. refl) text at at h
 

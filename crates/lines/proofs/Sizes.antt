@@ -4,8 +4,8 @@ use mathlib.Core.List.{List, [], ◌∷◌}
 use native.Mathlib.Omega.{arith}
 use lib.ListN.{length, get_or, take, length-take}
 use Rattle.sets.specs.Sums.{sum_over}
+use Rattle.std.specs.Prelude.{Option, Some, None}
 use Rattle.lines.specs.declared.Line.{Line}
-use Rattle.lines.specs.declared.Line.TheVariants.{Sound, Broken}
 use Rattle.lines.specs.Lines.{lf, semicolon, lines_of, frames_of, line_of, on_line}
 use Rattle.lines.specs.Profile.{frames_in, frame_at}
 use Rattle.lines.proofs.Lines.{bytes_in, split-bytes}
@@ -20,9 +20,9 @@ frames-le : (line : List ℕ) → bytes_in (frames_in line) ≤ length line
 unfolding sum_over
 frames-le line = go (line_of line)
   where
-    go : (l : Line) → bytes_in (on_line l (λ stack count. frames_of (take stack line)) []) ≤ length line
-    go (Sound stack count) = omega (arith, split-bytes semicolon ([] ∷ []) (take stack line), length-take stack line)
-    go Broken = omega arith
+    go : (l : Option Line) → bytes_in (on_line l (λ stack count. frames_of (take stack line)) []) ≤ length line
+    go (Some l) = omega (arith, split-bytes semicolon ([] ∷ []) (take l.stack line), length-take l.stack line)
+    go None = omega arith
 
 pub frame_le : (profile : List ℕ) (i j : ℕ) → length (frame_at profile i j) ≤ length profile
 unfolding sum_over

@@ -1,19 +1,18 @@
 -- What is said of a profile's lines: all sound, or which is the first that is not; their frames, and their counts added up. Assumes nothing.
-use Rattle.std.specs.Prelude.{List, [], ◌≢◌, ◌≡◌, ℕ, ◌^◌, ◌≤◌, ◌<◌, length, get_or, take}
+use Rattle.std.specs.Prelude.{List, [], None, ◌≢◌, ◌≡◌, ℕ, ◌^◌, ◌≤◌, ◌<◌, length, get_or, take}
 use Rattle.sets.specs.Sums.{sum_over}
 use Rattle.book.specs.Limits.{most_bytes}
-use Rattle.lines.specs.declared.Line.TheVariants.{Broken}
 use Rattle.lines.specs.Lines.{lines_of, frames_of, line_of, on_line}
 
 -- the lines are all sound
 abbrev pub AllSound : List (List ℕ) → Type 0
-AllSound ls = (i : ℕ) → i < length ls → line_of (get_or ls i []) ≢ Broken
+AllSound ls = (i : ℕ) → i < length ls → line_of (get_or ls i []) ≢ None
 
 -- line i is the first that breaks the rules
 pub record FirstBroken (ls : List (List ℕ)) (i : ℕ) : Type 0 where
   pub below : i < length ls
-  pub broken : line_of (get_or ls i []) ≡ Broken
-  pub before : (j : ℕ) → j < i → line_of (get_or ls j []) ≢ Broken
+  pub broken : line_of (get_or ls i []) ≡ None
+  pub before : (j : ℕ) → j < i → line_of (get_or ls j []) ≢ None
 
 -- the frames of a line that is sound
 abbrev pub frames_in : List ℕ → List (List ℕ)

@@ -1,8 +1,6 @@
 -- Lines, counts and frames in plain words, which the functions of `Lines` are shown to compute. Assumes nothing.
-use Rattle.std.specs.Prelude.{List, [], ◌∷◌, ◌++◌, ◌⊎◌, ◌↔◌, ◌≢◌, ◌≡◌, ℕ, zero, suc, ◌+◌, ◌-◌, ◌*◌, ◌≤◌, ◌<◌, length, get_or, take, drop}
-use Rattle.lines.specs.declared.Count.TheVariants.{Is}
-use Rattle.lines.specs.declared.Line.TheVariants.{Sound}
-use Rattle.lines.specs.Lines.{lf, space, semicolon, most_count, lines_of, frames_of, count_of, line_of}
+use Rattle.std.specs.Prelude.{List, [], ◌∷◌, ◌++◌, Some, ◌⊎◌, ◌↔◌, ◌≢◌, ◌≡◌, ℕ, zero, suc, ◌+◌, ◌-◌, ◌*◌, ◌≤◌, ◌<◌, length, get_or, take, drop, unwrap_or}
+use Rattle.lines.specs.Lines.{lf, space, semicolon, most_count, last_of, last_mark_of, lines_of, frames_of, count_of, sound_line, line_of}
 
 -- ---- pieces
 
@@ -71,7 +69,13 @@ pub record Writes (digits : List ℕ) (k : ℕ) : Type 0 where
   pub small : k ≤ most_count
 
 abbrev pub CountIs : Type 0
-CountIs = (s : List ℕ) (k : ℕ) → (count_of s ≡ Is k) ↔ Writes s k
+CountIs = (s : List ℕ) (k : ℕ) → (count_of s ≡ Some k) ↔ Writes s k
+
+-- ---- the last mark
+
+-- Its place or the length is the place that there is, or else the length.
+abbrev pub LastIs : Type 0
+LastIs = (mark : ℕ) (text : List ℕ) → last_of mark text ≡ unwrap_or (last_mark_of mark text) (length text)
 
 -- ---- a line
 
@@ -82,4 +86,4 @@ pub record IsLine (line stack digits : List ℕ) (k : ℕ) : Type 0 where
   pub count : Writes digits k
 
 abbrev pub LineIs : Type 0
-LineIs = (line : List ℕ) (n k : ℕ) → (line_of line ≡ Sound n k) ↔ ((stack digits : List ℕ) × IsLine line stack digits k × (length stack ≡ n))
+LineIs = (line : List ℕ) (n k : ℕ) → (line_of line ≡ sound_line n k) ↔ ((stack digits : List ℕ) × IsLine line stack digits k × (length stack ≡ n))

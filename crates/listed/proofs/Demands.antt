@@ -1,30 +1,31 @@
 -- Demands 2 and 3 of the paper: what a walk over the tables of rules finds, in words of the rules and the text alone. Assumes nothing.
-use mathlib.Core.Bool.{Bool, true, false, cond}
+use Rattle.std.specs.Prelude.{Result, Ok, Err}
 use mathlib.Core.List.{List, [], ◌∷◌, reverse}
 use mathlib.Core.Logic.{◌⊎◌, inl, inr, ◌≢◌}
 use mathlib.Core.Path.{◌≡◌, refl, sym, ap, ◌∙◌}
 use Prim.Native.Nat.{ℕ, ◌/◌, ◌≤◌, ◌<◌}
 use native.Mathlib.Omega.{arith}
+use Rattle.std.proofs.lemmas.Grind.{common_steps}
 use native.Mathlib.Decide.{dec_lt}
-use lib.Dec.{ltb}
 use lib.ListN.{length, get_or, length-reverse}
 use borrow.Author.Tests.{lt-ltb, le-ltb}
 use Rattle.meaning.specs.Rules.{Rules}
 use Rattle.meaning.specs.Standing.{held}
-use Rattle.meaning.specs.Falls.{falls_in}
+use Rattle.meaning.specs.Falls.{falls, falls_in}
 use Rattle.meaning.specs.Tables.{no_entry}
 use Rattle.meaning.specs.Occurrences.{Occurs}
 use Rattle.meaning.proofs.Falls.{falls_in-le}
 use Rattle.meaning.proofs.Looks.{row_held, row_first, row_out}
 use Rattle.book.specs.Limits.{most_rules, most_bytes}
 use Rattle.lent.specs.Lent.{lent}
-use Rattle.walk.specs.declared.Counted.{Counted}
-use Rattle.walk.specs.declared.Counted.TheVariants.{Read, Stopped}
+use Rattle.walk.specs.declared.Run.{Run as RunMade}
 use Rattle.answers.specs.declared.Walked.{Walked}
-use Rattle.answers.specs.declared.Walked.TheVariants.{Accepted, TooLong, BadRows, Damaged, NoRoom}
+use Rattle.answers.specs.declared.Damaged.{Damaged}
+use Rattle.answers.specs.declared.WalkRefusal.{WalkRefusal}
+use Rattle.answers.specs.declared.WalkRefusal.TheVariants.{TooLong, BadRows, NoRoom}
 use Rattle.answers.specs.Walked.{number_of}
-use Rattle.one_byte.specs.Move.{Lent}
-use Rattle.walk.specs.Walk.{run_of, reports_of, answer_of, written, buffer_of}
+use Rattle.one_byte.specs.Move.{Lent, reached}
+use Rattle.walk.specs.Walk.{read, run_of, reports_of, answer_of, written, buffer_of}
 use Rattle.listed.specs.Demands.{WalkCall, walk_answer, reports_after, WalkAnswers, WalkRefusals, WalkRefuses, Moves, OverTables, Demand2, Demand3, Matches}
 use Rattle.lent.proofs.HasRows.{rows-lent, no_rows, few-lent}
 use Rattle.one_byte.proofs.Laws.{move-lent}
@@ -37,24 +38,21 @@ use Rattle.listed.proofs.Follow.{at_below, move, Followed, follow}
 
 -- ---- over any tables
 
--- the ways of an answer
-untouched : (a : Walked) (reports old : List ℕ) → number_of a ≢ 0 → buffer_of a reports old ≡ old
-untouched (Accepted made falls held) reports old ne = absurd (ne refl)
-untouched TooLong reports old ne = refl
-untouched (BadRows n) reports old ne = refl
-untouched (Damaged at) reports old ne = refl
-untouched (NoRoom made) reports old ne = refl
+-- an accepted walk's answer
+abbrev accepting : ℕ → ℕ → ℕ → Result Walked WalkRefusal
+accepting k f h = Ok (record { reports = k; falls = f; held = h })
 
-no_start : (held : List ℕ) (room : ℕ) (q : Counted) → (number_of (answer_of held room q) ≢ 11) × (number_of (answer_of held room q) ≢ 12)
-no_start held room (Read made falls row) = go (ltb room made)
-  where
-    go : (b : Bool) → let a = cond b (NoRoom made) (Accepted made falls (get_or held row 0)) in (number_of a ≢ 11) × (number_of a ≢ 12)
-    go true = (λ z. omega arith, λ z. omega arith)
-    go false = (λ z. omega arith, λ z. omega arith)
-no_start held room (Stopped at) = (λ z. omega arith, λ z. omega arith)
+-- the ways of an answer
+untouched : (a : Result Walked WalkRefusal) (reports old : List ℕ) → number_of a ≢ 0 → buffer_of a reports old ≡ old
+untouched (Ok w) reports old ne = absurd (ne refl)
+untouched (Err e) reports old ne = refl
+
+no_start : (held : List ℕ) (room : ℕ) (q : Result RunMade Damaged) → (number_of (answer_of held room q) ≢ 11) × (number_of (answer_of held room q) ≢ 12)
+no_start held room (Ok r) = grind (arith, common_steps)
+no_start held room (Err d) = (λ z. omega arith, λ z. omega arith)
 
 module _ (w : WalkCall) where
-  none_lent : length w.text ≤ most_bytes → (w.n ≡ 0) ⊎ (lent w.tables < w.n) → walk_answer w ≡ BadRows w.n
+  none_lent : length w.text ≤ most_bytes → (w.n ≡ 0) ⊎ (lent w.tables < w.n) → walk_answer w ≡ Err (BadRows w.n)
   none_lent short (inl q) = rw (le-ltb most_bytes (length w.text) short, no_rows w.tables w.n q)
   none_lent short (inr l) =
       let ne : w.n ≢ 0 = omega arith in
@@ -62,7 +60,7 @@ module _ (w : WalkCall) where
 
   refusals : WalkRefusals w
   refusals = record {
-    too_long = λ l. let e : walk_answer w ≡ TooLong = rw (lt-ltb most_bytes (length w.text) l) in record { number_is = rw e; values_are = rw e };
+    too_long = λ l. let e : walk_answer w ≡ Err TooLong = rw (lt-ltb most_bytes (length w.text) l) in record { number_is = rw e; values_are = rw e };
     bad_rows = λ short h. let e = none_lent short h in record { number_is = rw e; values_are = rw e };
     run = λ short ne lends.
         rw (← walked w.tables w.n w.text (length w.reports) short (rows-lent w.tables w.n ne lends) refl refl) (no_start w.tables.held (length w.reports / 2) (run_of w.tables.goto w.tables.fall w.tables.out w.n w.text));
@@ -79,7 +77,7 @@ moves r b n tables lends t i c x byte =
     let few : n ≤ no_entry = omega arith in
     let enough : Lent b.goto b.fall n = record { few = omega arith; entries = omega arith; falls = omega arith } in
     let (e, m, y) = move tables few c x byte in
-    (e, move-lent b.goto b.fall n i c enough (at_below tables few x) ∙ m, row_out tables {e = e} y, y)
+    (e, ◌∙◌ {c = reached e (falls r t c)} (move-lent b.goto b.fall n i c enough (at_below tables few x)) m, row_out tables {e = e} y, y)
 
 -- ---- the run
 
@@ -96,7 +94,7 @@ holding r w = held r (reverse w.text)
 -- whatever the report buffer is
 record Run (r : Rules) (w : WalkCall) (m : ℕ) : Type 0 where
   last : ℕ
-  run : run_of w.tables.goto w.tables.fall w.tables.out w.n w.text ≡ Read m (fallbacks r w) last
+  run : run_of w.tables.goto w.tables.fall w.tables.out w.n w.text ≡ read m (fallbacks r w) last
   reports : reports_of w.tables.goto w.tables.fall w.tables.out w.n w.text ≡ occurrences most_rules r w.text
   holds : get_or w.tables.held last 0 ≡ holding r w
 
@@ -120,10 +118,10 @@ runs {r} {w} over rows = go (follow over.tables rows w.text over.bytes 0 (row_fi
 -- ---- the four ways of a walk
 
 data Way (r : Rules) (w : WalkCall) (m : ℕ) : Type 0 where
-  too_long : most_bytes < length w.text → walk_answer w ≡ TooLong → Way r w m
-  bad_rows : lent w.tables < w.n → walk_answer w ≡ BadRows w.n → Way r w m
-  no_room : Run r w m → length w.reports / 2 < m → walk_answer w ≡ NoRoom m → Way r w m
-  accepted : Run r w m → m ≤ length w.reports / 2 → walk_answer w ≡ Accepted m (fallbacks r w) (holding r w) → Way r w m
+  too_long : most_bytes < length w.text → walk_answer w ≡ Err TooLong → Way r w m
+  bad_rows : lent w.tables < w.n → walk_answer w ≡ Err (BadRows w.n) → Way r w m
+  no_room : Run r w m → length w.reports / 2 < m → walk_answer w ≡ Err (NoRoom m) → Way r w m
+  accepted : Run r w m → m ≤ length w.reports / 2 → walk_answer w ≡ accepting m (fallbacks r w) (holding r w) → Way r w m
 
 module _ {r : Rules} {w : WalkCall} (over : OverTables r w) where
   abbrev m : ℕ
@@ -152,7 +150,7 @@ module _ {r : Rules} {w : WalkCall} (over : OverTables r w) where
 
   -- accepted, it went the last of these ways
   when : {k falls h : ℕ} → WalkAnswers w 0 (k ∷ falls ∷ h ∷ [])
-      → Run r w m × (walk_answer w ≡ Accepted m (fallbacks r w) (holding r w)) × (k ≡ m) × (falls ≡ fallbacks r w) × (h ≡ holding r w)
+      → Run r w m × (walk_answer w ≡ accepting m (fallbacks r w) (holding r w)) × (k ≡ m) × (falls ≡ fallbacks r w) × (h ≡ holding r w)
   when a =
       elim way [
         | too_long _ e ↦ absurd (omega (arith, rw e at a.number_is))
@@ -174,7 +172,7 @@ module _ {r : Rules} {w : WalkCall} (over : OverTables r w) where
 
   -- the answer and the buffer by the room
   pub roomy : length w.text ≤ most_bytes → w.n ≤ lent w.tables → m ≤ length w.reports / 2
-      → (walk_answer w ≡ Accepted m (fallbacks r w) (holding r w)) × (reports_after w ≡ written (occurrences most_rules r w.text) w.reports)
+      → (walk_answer w ≡ accepting m (fallbacks r w) (holding r w)) × (reports_after w ≡ written (occurrences most_rules r w.text) w.reports)
   roomy short lends l =
       elim way [
         | too_long g _ ↦ absurd (omega arith)
@@ -183,7 +181,7 @@ module _ {r : Rules} {w : WalkCall} (over : OverTables r w) where
         | accepted x _ e ↦ (e, rw (e, x.reports))
       ]
 
-  pub crowded : length w.text ≤ most_bytes → w.n ≤ lent w.tables → length w.reports / 2 < m → (walk_answer w ≡ NoRoom m) × (reports_after w ≡ w.reports)
+  pub crowded : length w.text ≤ most_bytes → w.n ≤ lent w.tables → length w.reports / 2 < m → (walk_answer w ≡ Err (NoRoom m)) × (reports_after w ≡ w.reports)
   crowded short lends l =
       elim way [
         | too_long g _ ↦ absurd (omega arith)

@@ -16,11 +16,9 @@ use Rattle.meaning.proofs.Congruent.{congruence}
 use Rattle.meaning.proofs.Looks.{ahead, behind, look, tables_linked, row_out}
 use Rattle.meaning.proofs.Shorter.{shorter}
 use Rattle.book.specs.Limits.{most_rules}
-use Rattle.walk.specs.declared.Counted.TheVariants.{Read}
-use Rattle.one_byte.specs.declared.Moved.TheVariants.{Reached}
-use Rattle.one_byte.specs.Move.{move_from}
-use Rattle.walk.specs.Walk.{reported, run_from, reports_from}
-use Rattle.one_byte.proofs.Laws.{first_go, first-fall}
+use Rattle.one_byte.specs.Move.{reached, move_from}
+use Rattle.walk.specs.Walk.{read, reported, run_from, reports_from}
+use Rattle.one_byte.proofs.Laws.{goes, falls_to, by_go, by_fall}
 use Rattle.meaning.proofs.Occurrences.{occurrences_from}
 
 module _ {r : Rules} {b : Five} {n : ℕ} (tables : Tables r b n) (rows : n ≤ no_entry) where
@@ -33,26 +31,26 @@ module _ {r : Rules} {b : Five} {n : ℕ} (tables : Tables r b n) (rows : n ≤ 
 
   -- one byte's move, by induction on the falls
   move_in : (k : ℕ) {t : List ℕ} {i : ℕ} (c h : ℕ) → i < k → At t i → c < 256
-      → (e : ℕ) × (move_from b.goto b.fall n i c h ≡ Reached e (h + falls r t c)) × At (c ∷ t) e
+      → (e : ℕ) × (move_from b.goto b.fall n i c h ≡ reached e (h + falls r t c)) × At (c ∷ t) e
   move_in zero c h l x byte = absurd (omega arith)
   move_in (suc k) {t} {i} c h l x byte =
       elim (look (tables_linked tables rows) byte (at_below x) x) [
         | ahead ne y z ↦ (
           goto_at b.goto i c,
-          first_go b.goto b.fall n i c h refl ne (at_below y) ∙ rw (z, add-zero),
+          (by_go b.goto b.fall n i c h (goes b.goto b.fall n i c ne (at_below y))).1 ∙ rw (z, add-zero),
           y,
         )
         | behind q d y same z ↦
             let (e, m, w) = move_in k c (h + 1) (omega arith) y byte in
             let one : h + falls r t c ≡ h + 1 + falls r (shorter r t) c = omega arith in (
               e,
-              first-fall b.goto b.fall n i c h refl refl q d ∙ rw one m,
+              (by_fall b.goto b.fall n i c h (falls_to b.goto b.fall n i c q d)).1 ∙ rw one m,
               row_same (congruence r) same w,
             )
       ]
 
   pub move : {t : List ℕ} {i : ℕ} (c : ℕ) → At t i → c < 256
-      → (e : ℕ) × (move_from b.goto b.fall n i c 0 ≡ Reached e (falls r t c)) × At (c ∷ t) e
+      → (e : ℕ) × (move_from b.goto b.fall n i c 0 ≡ reached e (falls r t c)) × At (c ∷ t) e
   move {i} c x byte = let (e, m, y) = move_in (suc i) c 0 (omega arith) x byte in (e, m ∙ rw zero-add, y)
 
   -- a run over what is left of a text: its last row, its reports, and its fallbacks
@@ -60,7 +58,7 @@ module _ {r : Rules} {b : Five} {n : ℕ} (tables : Tables r b n) (rows : n ≤ 
     pub last : ℕ
     pub row : At (reverse_aux text t) last
     pub reports : reports_from b.goto b.fall b.out n at i text ≡ occurrences_from most_rules r at t text
-    pub run : (so_far : ℕ) → (made : ℕ) × (run_from b.goto b.fall b.out n at i (falls_in r t) so_far text ≡ Read made (falls_in r (reverse_aux text t)) last)
+    pub run : (so_far : ℕ) → (made : ℕ) × (run_from b.goto b.fall b.out n at i (falls_in r t) so_far text ≡ read made (falls_in r (reverse_aux text t)) last)
 
   pub follow : (text : List ℕ) → ByteText text → (at : ℕ) {t : List ℕ} {i : ℕ} → At t i → Followed at t i text
   unfolding run_from reports_from occurrences_from reported falls_in

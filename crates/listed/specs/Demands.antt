@@ -1,6 +1,6 @@
 -- What a walk over the tables of rules finds, in words of the rules and the text alone: demands 2 and 3 of the paper. A text is in reading order here;
 -- `meaning` reads one with its latest byte first, so it is handed `reverse text`. Assumes nothing.
-use Rattle.std.specs.Prelude.{◌≡◌, ◌⊎◌, ◌≢◌, true, List, [], ◌∷◌, reverse, ℕ, ◌+◌, ◌-◌, ◌*◌, ◌/◌, ◌≤◌, ◌<◌, length, get_or}
+use Rattle.std.specs.Prelude.{◌≡◌, ◌⊎◌, ◌≢◌, true, Result, List, [], ◌∷◌, reverse, ℕ, ◌+◌, ◌-◌, ◌*◌, ◌/◌, ◌≤◌, ◌<◌, length, get_or}
 use Rattle.rows.specs.Rows.{ByteText, IsRow}
 use Rattle.sets.specs.Table.{rules_at}
 use Rattle.meaning.specs.Rules.{Rules, count, size, symbol, fits}
@@ -10,12 +10,11 @@ use Rattle.meaning.specs.Occurrences.{Occurs, Lists}
 use Rattle.meaning.specs.Tables.{Five, Tables}
 use Rattle.book.specs.Limits.{most_rules, most_bytes}
 use Rattle.lent.specs.Lent.{lent}
-use Rattle.walk.specs.declared.Counted.TheVariants.{Read}
-use Rattle.one_byte.specs.declared.Moved.TheVariants.{Reached}
 use Rattle.answers.specs.declared.Walked.{Walked}
+use Rattle.answers.specs.declared.WalkRefusal.{WalkRefusal}
 use Rattle.answers.specs.Walked.{number_of, values_of}
-use Rattle.one_byte.specs.Move.{move_of}
-use Rattle.walk.specs.Walk.{run_of, reports_of, walk_of, buffer_of}
+use Rattle.one_byte.specs.Move.{reached, move_of}
+use Rattle.walk.specs.Walk.{read, run_of, reports_of, walk_of, buffer_of}
 use Rattle.listed.specs.Looks.{looks_from, goings}
 
 -- ---- a call of the walk
@@ -27,7 +26,7 @@ pub record WalkCall : Type 0 where
   pub reports : List ℕ
 
 -- its answer, the report buffer after it, and how many looks of its run go on
-abbrev pub walk_answer : WalkCall → Walked
+abbrev pub walk_answer : WalkCall → Result Walked WalkRefusal
 walk_answer w = walk_of w.tables w.n w.text (length w.reports)
 
 abbrev pub reports_after : WalkCall → List ℕ
@@ -55,7 +54,7 @@ WalkRefuses = (w : WalkCall) → WalkRefusals w
 
 -- A run makes at most as many reports a byte as there may be rules.
 abbrev pub FewReports : Type 0
-FewReports = (goto fall out text : List ℕ) (n made falls row : ℕ) → run_of goto fall out n text ≡ Read made falls row → made ≤ most_rules * length text
+FewReports = (goto fall out text : List ℕ) (n made falls row : ℕ) → run_of goto fall out n text ≡ read made falls row → made ≤ most_rules * length text
 
 -- ---- over the tables of rules
 
@@ -63,7 +62,7 @@ FewReports = (goto fall out text : List ℕ) (n made falls row : ℕ) → run_of
 -- rules and text determine, and the rules of that row are those that end there.
 abbrev pub Moves : Type 0
 Moves = (r : Rules) (b : Five) (n : ℕ) (tables : Tables r b n) → n ≤ lent b → (t : List ℕ) (i c : ℕ) → IsRow (Same r) tables.texts t i → c < 256
-    → (e : ℕ) × (move_of b.goto b.fall n i c ≡ Reached e (falls r t c)) × (rules_at b.out e ≡ out r (c ∷ t)) × IsRow (Same r) tables.texts (c ∷ t) e
+    → (e : ℕ) × (move_of b.goto b.fall n i c ≡ reached e (falls r t c)) × (rules_at b.out e ≡ out r (c ∷ t)) × IsRow (Same r) tables.texts (c ∷ t) e
 
 -- A call over the tables of the rules, with a text of bytes.
 pub record OverTables (r : Rules) (w : WalkCall) : Type 0 where

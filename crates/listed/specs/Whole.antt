@@ -6,8 +6,7 @@ use Rattle.book.specs.Content.{Content}
 use Rattle.format.specs.Format.{means, meaning_of}
 use Rattle.book.specs.Meant.{rules_of}
 use Rattle.lent.specs.Lent.{lent}
-use Rattle.promised.specs.Promise.{number_of, value_of, Promise}
-use Rattle.promised.specs.declared.Built.{Built}
+use Rattle.promised.specs.Promise.{Built, number_of, value_of, Promise}
 use Rattle.listed.specs.Demands.{Matched}
 
 -- what a walk over the buffers b with n rows comes to: the bytes mean a book, the rows are lent, and demands 2 and 3 hold of its rules

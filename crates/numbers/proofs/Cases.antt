@@ -14,7 +14,7 @@ use Rattle.book.specs.Content.{member, table}
 use Rattle.one_byte.specs.Move.{look_at, move_in, move_from}
 use Rattle.walk.specs.Walk.{reported, run_from, reports_from, written}
 use Rattle.meaning.proofs.Occurrences.{occurrences_from}
-use Rattle.lines.specs.Lines.{split, lines_of, last_from, number_from, count_of, line_of}
+use Rattle.lines.specs.Lines.{split, lines_of, last_mark_of, number_from, count_of, line_of}
 use Rattle.lines.specs.Written.{start_of}
 use Rattle.lines.specs.Profile.{FirstBroken}
 use Rattle.lines.proofs.First.{are_sound}
@@ -27,11 +27,11 @@ use Rattle.numbers.proofs.Walks.{gives, fitting, lacking}
 use Rattle.numbers.proofs.Tallies.{refused, summing}
 
 a_01_broken : FirstBroken (lines_of a_01) 0
-unfolding split last_from number_from count_of line_of
+unfolding split last_mark_of number_from count_of line_of
 a_01_broken = record { below = omega arith; broken = refl; before = λ j l. absurd (omega arith) }
 
 pub numbers : All cases
-unfolding is_bytes are_sound table member has set_where those members reports set_of row_set rules_at fits fits_at stands level opens largest held ends out longest next_longest fits_with falls_from falls falls_in occurrences_from look_at move_in move_from reported run_from reports_from written split last_from number_from count_of line_of start_of ends_from once sum_over
+unfolding is_bytes are_sound table member has set_where those members reports set_of row_set rules_at fits fits_at stands level opens largest held ends out longest next_longest fits_with falls_from falls falls_in occurrences_from look_at move_in move_from reported run_from reports_from written split last_mark_of number_from count_of line_of start_of ends_from once sum_over
 numbers =
     also (refusing [] empty-refused)
     (also (enough means-A A-right refl refl refl)

@@ -4,8 +4,7 @@ use Rattle.sets.specs.Table.{row_words}
 use Rattle.meaning.specs.Tables.{Five}
 use Rattle.book.specs.Limits.{most_rules, most_rows}
 use Rattle.lent.specs.Lent.{five, lent, zeroed}
-use Rattle.promised.specs.Promise.{number_of, value_of, Promise}
-use Rattle.promised.specs.declared.Built.{Built}
+use Rattle.promised.specs.Promise.{Built, number_of, value_of, Promise}
 use Rattle.listed.specs.Demands.{WalkCall, reports_after, WalkAnswers}
 use Rattle.summed.specs.Totals.{TallyCall, sums_after, TallyAnswers}
 use Rattle.numbers.specs.Inputs.{bytes_a, bytes_aa, bytes_x, bytes_y, aabab, aabbx, aab1, aab1_ab_3, a_01}

@@ -1,90 +1,61 @@
 -- Laws of one look and of one byte's move: what the loops over falls go by. Assumes nothing.
-use Prim.Native.Nat.{ℕ, zero, suc, ◌+◌, ◌*◌, ◌≤◌, ◌<◌}
-use mathlib.Core.Bool.{true, false, or-true, true≢false}
+use Prim.Native.Nat.{ℕ, zero, suc, ◌+◌, ◌*◌, ◌<◌}
+use mathlib.Core.Bool.{false}
+use Rattle.std.specs.Prelude.{Option, Some, None}
 use mathlib.Core.List.{List}
 use mathlib.Core.Logic.{◌≢◌}
-use mathlib.Core.Path.{◌≡◌, refl, sym, ◌∙◌}
+use mathlib.Core.Path.{◌≡◌, refl, ◌∙◌}
 use native.Mathlib.Omega.{arith}
-use native.Mathlib.Decide.{dec_lt}
+use Rattle.std.proofs.lemmas.Grind.{common_steps}
 use lib.ListN.{length, get_or}
-use borrow.Author.Tests.{lt-leb, le-leb, le-ltb, eq-eqb, ne_eqb}
-use Rattle.rows.proofs.Compare.{less, equal, more, order}
+use borrow.Author.Tests.{lt-leb, le-ltb}
 use Rattle.meaning.specs.Tables.{no_entry, goto_at}
 use Rattle.book.specs.Limits.{most_rows}
 use Rattle.one_byte.specs.declared.Moved.{Moved}
-use Rattle.one_byte.specs.declared.Moved.TheVariants.{Reached, Lost}
-use Rattle.one_byte.specs.Move.{Lent, Looked, Go, Fall, Wrong, unwritten, look_of, look_at, on_look, move_in, move_from, is_short, move_of}
+use Rattle.one_byte.specs.declared.Look.{Look}
+use Rattle.one_byte.specs.declared.Look.TheVariants.{Go, Fall, Wrong}
+use Rattle.one_byte.specs.Move.{Lent, reached, look_at, on_look, move_in, move_from, is_short, move_of}
 
 -- ---- one look
 
 -- a look goes to one of the n rows, and falls to a lower row
-abbrev pub Sound : ℕ → ℕ → Looked → Type 0
+abbrev pub Sound : ℕ → ℕ → Look → Type 0
 Sound n row (Go e) = e < n
 Sound n row (Fall f) = f < row
 Sound n row Wrong = Unit {0}
 
-module _ (n row entry to : ℕ) where
-  look_go : entry ≢ no_entry → entry < n → look_of n row entry to ≡ Go entry
-  look_go ne h = rw (ne_eqb entry no_entry ne, lt-leb n entry h)
+module _ (goto fall : List ℕ) (n row c : ℕ) where
+  at_sound : Sound n row (look_at goto fall n row c)
+  unfolding look_at
+  at_sound = grind (arith, common_steps)
 
-  look_far : entry ≢ no_entry → n ≤ entry → look_of n row entry to ≡ Wrong
-  look_far ne h = rw (ne_eqb entry no_entry ne, le-leb n entry h)
+  -- a look by the row's entry and its fall
+  pub goes : goto_at goto row c ≢ no_entry → goto_at goto row c < n → Go (goto_at goto row c) ≡ look_at goto fall n row c
+  unfolding look_at
+  goes ne h = grind (arith, common_steps)
 
-  look-fall : entry ≡ no_entry → to < row → look_of n row entry to ≡ Fall to
-  look-fall q h = let ne : row ≢ 0 = omega arith in rw (eq-eqb entry no_entry q, ne_eqb row 0 ne, lt-leb row to h)
-
-  -- row 0 too: no row is below it
-  look-stuck : entry ≡ no_entry → row ≤ to → look_of n row entry to ≡ Wrong
-  look-stuck q h = rw (eq-eqb entry no_entry q, le-leb row to h, or-true)
-
-  -- an entry that a build may write, and that goes nowhere, says: fall back
-  pub falls-back : n ≤ entry → unwritten n row entry to ≡ false → (entry ≡ no_entry) × (to < row)
-  falls-back h e =
-      elim (order entry no_entry) [
-        | less l ↦ absurd (far (omega arith))
-        | equal q ↦ elim (dec_lt to row) [ yes l ↦ (q, l) | no g ↦ absurd (true≢false (sym (stuck q (omega arith)) ∙ e)) ]
-        | more l ↦ absurd (far (omega arith))
-      ]
-    where
-      far : entry ≢ no_entry → ⊥
-      far ne = true≢false (sym (rw (ne_eqb entry no_entry ne, le-leb n entry h)) ∙ e)
-
-      stuck : entry ≡ no_entry → row ≤ to → unwritten n row entry to ≡ true
-      stuck q g = rw (eq-eqb entry no_entry q, le-leb row to g, or-true)
-
-  sound-on : entry ≢ no_entry → Sound n row (look_of n row entry to)
-  sound-on ne = elim (dec_lt entry n) [ yes h ↦ rw (look_go ne h) h | no g ↦ let h : n ≤ entry = omega arith in rw (look_far ne h) tt ]
-
-  look-sound : Sound n row (look_of n row entry to)
-  look-sound =
-      elim (order entry no_entry) [
-        | less l ↦ sound-on (omega arith)
-        | equal q ↦ elim (dec_lt to row) [ yes h ↦ rw (look-fall q h) h | no g ↦ let h : row ≤ to = omega arith in rw (look-stuck q h) tt ]
-        | more l ↦ sound-on (omega arith)
-      ]
+  pub falls_to : goto_at goto row c ≡ no_entry → get_or fall row 0 < row → Fall (get_or fall row 0) ≡ look_at goto fall n row c
+  unfolding look_at
+  falls_to q h = grind (arith, common_steps)
 
 -- ---- one byte's move
 
 -- two ways on from a fall that agree at each lower row
-on-look-same : (n row falls : ℕ) (l : Looked) (k j : ℕ → Moved) → Sound n row l → ((f : ℕ) → f < row → k f ≡ j f)
+on-look-same : (n row falls : ℕ) (l : Look) (k j : ℕ → Option Moved) → Sound n row l → ((f : ℕ) → f < row → k f ≡ j f)
     → on_look l falls k ≡ on_look l falls j
 on-look-same n row falls (Go e) k j s h = refl
 on-look-same n row falls (Fall f) k j s h = h f s
 on-look-same n row falls Wrong k j s h = refl
 
 -- a move reaches one of the n rows
-abbrev pub Within : ℕ → Moved → Type 0
-Within n (Reached row falls) = row < n
-Within n Lost = Unit {0}
+abbrev pub Within : ℕ → Option Moved → Type 0
+Within n (Some m) = m.row < n
+Within n None = Unit {0}
 
-within-look : (n row falls : ℕ) (l : Looked) (k : ℕ → Moved) → Sound n row l → ((f : ℕ) → Within n (k f)) → Within n (on_look l falls k)
+within-look : (n row falls : ℕ) (l : Look) (k : ℕ → Option Moved) → Sound n row l → ((f : ℕ) → Within n (k f)) → Within n (on_look l falls k)
 within-look n row falls (Go e) k s h = s
 within-look n row falls (Fall f) k s h = h f
 within-look n row falls Wrong k s h = tt
-
-at_sound : (goto fall : List ℕ) (n row c : ℕ) → Sound n row (look_at goto fall n row c)
-unfolding look_at
-at_sound goto fall n row c = look-sound n row (goto_at goto row c) (get_or fall row 0)
 
 module _ (goto fall : List ℕ) (n : ℕ) where
   within_in : (k row c falls : ℕ) → Within n (move_in goto fall n k row c falls)
@@ -97,7 +68,7 @@ module _ (goto fall : List ℕ) (n : ℕ) where
   move-within row c falls = within_in (suc row) row c falls
 
   -- what a move r that is m tells
-  pub moved : (row c falls : ℕ) {r m : Moved} → r ≡ move_from goto fall n row c falls → r ≡ m → Within n m × (move_from goto fall n row c falls ≡ m)
+  pub moved : (row c falls : ℕ) {r m : Option Moved} → r ≡ move_from goto fall n row c falls → r ≡ m → Within n m × (move_from goto fall n row c falls ≡ m)
   moved row c falls p q = (rw (← q, p) (move-within row c falls), rw (← p) q)
 
   -- looks beyond `row + 1` change nothing
@@ -114,22 +85,16 @@ module _ (goto fall : List ℕ) (n : ℕ) where
   move-look row c falls =
       on-look-same n row falls (look_at goto fall n row c) _ _ (at_sound goto fall n row c) (λ f s. enough row (suc f) f c (falls + 1) s (omega arith))
 
+module _ (goto fall : List ℕ) (n row c falls : ℕ) where
   -- a move by its first look
-  module _ (row c falls : ℕ) {entry : ℕ} (p : entry ≡ goto_at goto row c) where
-    look_is : (to : ℕ) (l : Looked) → to ≡ get_or fall row 0 → look_of n row entry to ≡ l
-        → move_from goto fall n row c falls ≡ on_look l falls (λ f. move_from goto fall n f c (falls + 1))
-    unfolding look_at
-    look_is to l q e = move-look row c falls ∙ rw (← p, ← q, e)
+  pub by_go : {e : ℕ} → Go e ≡ look_at goto fall n row c → (e < n) × (move_from goto fall n row c falls ≡ reached e falls)
+  by_go q = (rw (← q) at (at_sound goto fall n row c), move-look goto fall n row c falls ∙ rw (← q))
 
-    pub first_go : entry ≢ no_entry → entry < n → move_from goto fall n row c falls ≡ Reached entry falls
-    first_go ne h = look_is (get_or fall row 0) (Go entry) refl (look_go n row entry (get_or fall row 0) ne h)
+  pub by_fall : {f : ℕ} → Fall f ≡ look_at goto fall n row c → (f < row) × (move_from goto fall n row c falls ≡ move_from goto fall n f c (falls + 1))
+  by_fall q = (rw (← q) at (at_sound goto fall n row c), move-look goto fall n row c falls ∙ rw (← q))
 
-    pub first-fall : {to : ℕ} → to ≡ get_or fall row 0 → entry ≡ no_entry → to < row
-        → move_from goto fall n row c falls ≡ move_from goto fall n to c (falls + 1)
-    first-fall {to} q e h = look_is to (Fall to) q (look-fall n row entry to e h)
-
-    pub first_wrong : {to : ℕ} → to ≡ get_or fall row 0 → unwritten n row entry to ≡ true → move_from goto fall n row c falls ≡ Lost
-    first_wrong {to} q e = look_is to Wrong q (rw e)
+  pub by_wrong : Wrong ≡ look_at goto fall n row c → move_from goto fall n row c falls ≡ None
+  by_wrong q = move-look goto fall n row c falls ∙ rw (← q)
 
 -- ---- tables that are long enough
 

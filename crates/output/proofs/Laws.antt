@@ -1,17 +1,20 @@
 -- What is put behind what was put, and a number's digits. Assumes nothing.
-use mathlib.Core.List.{List, [], ◌∷◌, ◌++◌}
+use mathlib.Core.List.{List, [], ◌∷◌, ◌++◌, append_assoc}
 use mathlib.Core.Path.{◌≡◌, refl, sym, ap, ap₂, ◌∙◌}
-use Prim.Native.Nat.{ℕ, zero, suc, ◌+◌, ◌-◌, ◌/◌, ◌%◌, ◌^◌, ◌≤◌, ◌<◌}
+use Prim.Native.Nat.{ℕ, zero, suc, ◌+◌, ◌-◌, ◌/◌, ◌%◌, ◌^◌, ◌≤◌, ◌<◌, min}
 use native.Mathlib.Nat.{pow-suc, one-le-pow, pow-le-pow_right}
 use native.Mathlib.Decide.{dec_lt}
 use native.Mathlib.Numerals.{unary_clauses}
 use native.Mathlib.Omega.{arith}
+use borrow.Rule.Slice.PartMut.{put_mid}
 use borrow.Author.Tests.{lt-ltb, le-ltb}
-use lib.ListN.{length, length-append}
-use lib.Seq.{sets, length-sets, set_out}
+use lib.ListN.{length, take, drop, length-append, length-take, take-append-drop, drop_of_length-le}
+use lib.Seq.{sets, length-sets, set_out, sets-eq, drop-drop}
 use Rattle.sets.proofs.Members.{sets_append}
 use Rattle.io.specs.Digits.{hex_digit_ascii, last_digits, IsDigitCount}
+use Rattle.output.specs.declared.Answer.{Answer}
 use Rattle.output.specs.Printed.{Puts, numeral, numeral_in}
+use Rattle.output.specs.Adds.{Adds}
 
 -- ---- a run of stores
 
@@ -19,6 +22,34 @@ use Rattle.output.specs.Printed.{Puts, numeral, numeral_in}
 pub sets_past : (vs l : List ℕ) (i : ℕ) → length l ≤ i → sets l i vs ≡ l
 sets_past [] l i h = refl
 sets_past (v ∷ vs) l i h = ap (λ m. sets m (suc i) vs) (set_out l i v h) ∙ sets_past vs l (suc i) (omega arith)
+
+-- the bytes that have room are copied: m of them, over k places
+put-fits : (l bytes part : List ℕ) (at k m : ℕ) → at ≤ length l → k ≡ m → m ≡ min (length bytes) (length l - at) → part ≡ take m bytes → put_mid at k l part ≡ sets l at bytes
+put-fits l bytes part at k m inside same many copied =
+    let long : length (take m bytes) ≡ m = length-take m bytes ∙ omega arith in
+    let rest : sets (sets l at (take m bytes)) (at + length (take m bytes)) (drop m bytes) ≡ sets l at (take m bytes) =
+    elim (dec_lt (length l - at) (length bytes)) [
+      | yes full ↦ sets_past (drop m bytes) (sets l at (take m bytes)) _ (omega (arith, length-sets l at (take m bytes)))
+      | no fits ↦ ap (sets (sets l at (take m bytes)) (at + length (take m bytes))) (drop_of_length-le bytes {i = m} (omega arith))
+    ] in
+    ap (λ d. take at l ++ (part ++ d)) (drop-drop k at l)
+    ∙ ap (λ j. take at l ++ (part ++ drop (at + j) l)) (same ∙ sym long)
+    ∙ ap (λ p. take at l ++ (p ++ drop (at + length (take m bytes)) l)) copied
+    ∙ sym (append_assoc (take at l) (take m bytes) (drop (at + length (take m bytes)) l))
+    ∙ sym (sets-eq (take m bytes) l at (omega arith))
+    ∙ sym rest
+    ∙ sym (sets_append l (take m bytes) (drop m bytes) at)
+    ∙ ap (sets l at) (take-append-drop m bytes)
+
+-- where the first place may be past the end
+pub put-part : (l bytes part : List ℕ) (at start k m : ℕ) → start ≡ min at (length l) → k ≡ m → m ≡ min (length bytes) (length l - start) → part ≡ take m bytes
+    → put_mid start k l part ≡ sets l at bytes
+put-part l bytes part at start k m from same many copied =
+    put-fits l bytes part start k m (omega arith) same many copied
+    ∙ elim (dec_lt (length l) at) [
+      | yes past ↦ sets_past bytes l start (omega arith) ∙ sym (sets_past bytes l at (omega arith))
+      | no inside ↦ let e : start ≡ at = omega arith in ap (λ i. sets l i bytes) e
+    ]
 
 pub puts_append : {xs ys l₀ l₁ l₂ : List ℕ} {at r₁ r₂ : ℕ} → Puts xs l₀ at l₁ r₁ → Puts ys l₁ r₁ l₂ r₂ → Puts (xs ++ ys) l₀ at l₂ r₂
 puts_append {xs} {ys} {l₀} {l₁} {l₂} {at} {r₁} {r₂} p q = record {
@@ -37,6 +68,10 @@ puts_append {xs} {ys} {l₀} {l₁} {l₂} {at} {r₁} {r₂} p q = record {
         let end = length-sets l₀ at xs in
         sets_past ys (sets l₀ at xs) r₁ (omega (arith, p.behind, end))
         ∙ sym (sets_append l₀ xs ys at ∙ sets_past ys (sets l₀ at xs) (at + length xs) (omega (arith, end)))
+
+-- the same of an answer
+pub adds_append : {xs ys : List ℕ} {a b c : Answer} → Adds xs a b → Adds ys b c → Adds (xs ++ ys) a c
+adds_append p q = record { puts = puts_append p.puts q.puts; same = q.same ∙ p.same }
 
 -- ---- a number's digits
 

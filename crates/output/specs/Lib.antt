@@ -1,2 +1,3 @@
 -- The definitions of `output`. Assumes nothing.
 pub mod Printed
+pub mod Adds

@@ -6,6 +6,7 @@ use Prim.Native.Nat.{ℕ, ◌≤◌}
 use native.Mathlib.Omega.{arith}
 use borrow.Author.Tests.{ne_eqb}
 use lib.Dec.{eqb}
+use Rattle.std.proofs.Common.{Ok, Err}
 use Rattle.rows.specs.Rows.{MoreThan, AtMost}
 use Rattle.rows.proofs.Rows.{not_both}
 use Rattle.meaning.specs.Rules.{Rules}
@@ -20,10 +21,9 @@ use Rattle.format.specs.Format.{Meaning, means, refused, meaning_of}
 use Rattle.book.specs.Meant.{rules_of}
 use Rattle.format.proofs.Numbers.{number_some, refusal_of, is_refusal}
 use Rattle.lent.specs.Lent.{lent, AsLong}
-use Rattle.promised.specs.Promise.{number_of, value_of, Builds, accepted, no_room, Answers, builds, refuses}
+use Rattle.promised.specs.Promise.{Built, number_of, value_of, Builds, accepted, no_room, Answers, builds, refuses}
 use Rattle.promised.specs.Exact.{Crowded, Fitting, Exactly, RoomExactly, RowsOrMore, OfWords, OneOutcome}
-use Rattle.promised.specs.declared.Built.{Built}
-use Rattle.promised.specs.declared.Built.TheVariants.{Rows, NoRoom, Refused}
+use Rattle.promised.specs.declared.BuildRefusal.TheVariants.{NoRoom, Book}
 
 -- ---- room
 
@@ -125,13 +125,13 @@ answers-same w w' refuses refuses = record { number_same = refl; value_same = re
 
 -- an answer is known by its number and its value
 answer_of : ℕ → ℕ → Built
-answer_of i v = cond (eqb i 0) (Rows v) (cond (eqb i 10) (NoRoom v) (Refused (refusal_of i v)))
+answer_of i v = cond (eqb i 0) (Ok v) (Err (cond (eqb i 10) (NoRoom v) (Book (refusal_of i v))))
 
 is_answer : (x : Built) → answer_of (number_of x) (value_of x) ≡ x
 unfolding answer_of
-is_answer (Rows n) = refl
-is_answer (NoRoom n) = refl
-is_answer (Refused why) = rw (ne_eqb (number why) 0 (omega (arith, (number_some why).0)), ne_eqb (number why) 10 (not_ten why), is_refusal why)
+is_answer (Ok n) = refl
+is_answer (Err (NoRoom n)) = refl
+is_answer (Err (Book why)) = rw (ne_eqb (number why) 0 (omega (arith, (number_some why).0)), ne_eqb (number why) 10 (not_ten why), is_refusal why)
 
 pub one-outcome : OneOutcome
 one-outcome c d e q w w' =

@@ -8,8 +8,7 @@ use Rattle.book.specs.Content.{Content}
 use Rattle.format.specs.Format.{means, meaning_of}
 use Rattle.book.specs.Meant.{rules_of}
 use Rattle.lent.specs.Lent.{lent}
-use Rattle.promised.specs.Promise.{number_of, value_of, Promise}
-use Rattle.promised.specs.declared.Built.{Built}
+use Rattle.promised.specs.Promise.{Built, number_of, value_of, Promise}
 
 -- a call of build that keeps its promise
 pub record BuildCall : Type 0 where

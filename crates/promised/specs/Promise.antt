@@ -1,5 +1,5 @@
 -- What a build promises, in words of the book's meaning, its rules and its rows. Assumes nothing.
-use Rattle.std.specs.Prelude.{List, ℕ, ◌≤◌}
+use Rattle.std.specs.Prelude.{List, ℕ, ◌≤◌, Result, Ok, Err}
 use Rattle.rows.specs.Rows.{MoreThan}
 use Rattle.meaning.specs.Rules.{Rules}
 use Rattle.meaning.specs.Standing.{Same}
@@ -10,20 +10,31 @@ use Rattle.format.specs.Answers.{number, value}
 use Rattle.format.specs.Format.{Meaning, means, refused, meaning_of}
 use Rattle.book.specs.Meant.{rules_of}
 use Rattle.lent.specs.Lent.{lent, zeroed, AsLong}
-use Rattle.promised.specs.declared.Built.{Built}
-use Rattle.promised.specs.declared.Built.TheVariants.{Rows, NoRoom, Refused}
+use Rattle.promised.specs.declared.BuildRefusal.{BuildRefusal}
+use Rattle.promised.specs.declared.BuildRefusal.TheVariants.{NoRoom, Book}
 
--- ---- the answer's number and value
+-- ---- the answer, its number and its value
+
+-- the rows used, or why there are no tables
+abbrev pub Built : Type 0
+Built = Result ℕ BuildRefusal
+
+-- the number of a refusal, and its value
+abbrev pub number_why : BuildRefusal → ℕ
+number_why (NoRoom n) = 10
+number_why (Book why) = number why
+
+abbrev pub value_why : BuildRefusal → ℕ
+value_why (NoRoom n) = n
+value_why (Book why) = value why
 
 abbrev pub number_of : Built → ℕ
-number_of (Rows n) = 0
-number_of (NoRoom n) = 10
-number_of (Refused why) = number why
+number_of (Ok n) = 0
+number_of (Err why) = number_why why
 
 abbrev pub value_of : Built → ℕ
-value_of (Rows n) = n
-value_of (NoRoom n) = n
-value_of (Refused why) = value why
+value_of (Ok n) = n
+value_of (Err why) = value_why why
 
 -- ---- the promise
 

@@ -1,38 +1,44 @@
-// The answer of a build; what a build promises is in specs/, and what is proved of that in proofs/.
+// Why a build is refused; what a build promises is in specs/, and what is proved of that in proofs/.
 #![tactic(auto)]
 
 ghost use Rattle.std.specs.Prelude.{◌≡◌};
-ghost use Rattle.promised.specs.Promise.{number_of, value_of};
+ghost use Rattle.promised.specs.Promise.{number_why, value_why};
+ghost use Rattle.promised.specs.declared.BuildRefusal.TheVariants.{Book};
 
-use format::{Answer, Refusal};
+use format::Refusal;
+use numbered::Numbered;
 
-// The answer of a build: the rows used, the rows lent where more are needed, or why the book is refused.
+// Why a build leaves no tables: the rows lent where more are needed, or why the book is refused.
 #[derive(Clone, Copy)]
-pub enum Built {
-    Rows(usize),
+pub enum BuildRefusal {
     NoRoom(usize),
-    Refused(Refusal),
+    Book(Refusal),
 }
 
-impl Built {
-    // The paper's number of an answer, and its value.
-    pub fn number(self) -> usize
-        ensures { result ≡ number_of self }
-    {
+impl From<Refusal> for BuildRefusal {
+    ghost from_gives = { λ why e. e ≡ Book why };
+
+    fn from(why: Refusal) -> BuildRefusal {
+        BuildRefusal::Book(why)
+    }
+}
+
+impl Numbered for BuildRefusal {
+    ghost number_is = { number_why };
+
+    ghost value_is = { value_why };
+
+    fn number(&self) -> usize {
         match self {
-            Built::Rows(_) => 0,
-            Built::NoRoom(_) => 10,
-            Built::Refused(why) => Answer::Refused(why).number(),
+            BuildRefusal::NoRoom(_) => 10,
+            BuildRefusal::Book(why) => why.number(),
         }
     }
 
-    pub fn value(self) -> usize
-        ensures { result ≡ value_of self }
-    {
+    fn value(&self) -> u64 {
         match self {
-            Built::Rows(n) => n,
-            Built::NoRoom(n) => n,
-            Built::Refused(why) => Answer::Refused(why).value(),
+            BuildRefusal::NoRoom(rows) => *rows as u64,
+            BuildRefusal::Book(why) => why.value(),
         }
     }
 }

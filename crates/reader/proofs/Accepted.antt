@@ -2,10 +2,9 @@
 use Prim.Native.Nat.{ℕ}
 use mathlib.Core.Path.{◌≡◌, refl, ap, ◌∙◌}
 use mathlib.Core.List.{List}
-use native.Mathlib.Omega.{arith}
 use Rattle.reader.specs.declared.ReadBook.{ReadBook}
 use Rattle.format.specs.declared.Refusal.{Refusal}
-use Rattle.format.specs.declared.Answer.TheVariants.{Accepted, Refused}
+use Rattle.std.specs.Prelude.{Ok, Err}
 use Rattle.book.specs.Content.{record_of}
 use Rattle.format.specs.Format.{Meaning, means, refused, meaning_of}
 use Rattle.reader.specs.Handed.{handed, read_of}
@@ -16,7 +15,7 @@ use Rattle.format.proofs.Sizes.{lawful}
 use Rattle.book.proofs.Meant.{rules-same-held}
 
 module _ (s : List ℕ) {x : ReadBook} (q : x ≡ read_of s) where
-  pub accepting : ByteText s → x.answer ≡ Accepted → Accepting s x.book
+  pub accepting : ByteText s → x.answer ≡ Ok tt → Accepting s x.book
   unfolding read_of handed
   accepting small k = go (meaning_of s) refl q
     where
@@ -33,12 +32,12 @@ module _ (s : List ℕ) {x : ReadBook} (q : x ≡ read_of s) where
             few = rw (rules-held a h) l.sound.few_rules;
             short = short_held a h l.sound;
           }
-      go (refused y) e w = let z : x.answer ≡ Refused y = ap (λ y. y.answer) w in absurd (let o : ◌≡◌ {A = ℕ} 0 1 = cc in omega arith)
+      go (refused y) e w = let z : x.answer ≡ Err y = ap (λ y. y.answer) w in absurd (cc)
 
-  pub refusing : {y : Refusal} → x.answer ≡ Refused y → meaning_of s ≡ refused y
+  pub refusing : {y : Refusal} → x.answer ≡ Err y → meaning_of s ≡ refused y
   unfolding read_of handed
   refusing {y} k = go (meaning_of s) refl q
     where
       go : (m : Meaning) → meaning_of s ≡ m → x ≡ handed m → meaning_of s ≡ refused y
-      go (means a) e w = let z : x.answer ≡ Accepted = ap (λ y. y.answer) w in absurd (let o : ◌≡◌ {A = ℕ} 0 1 = cc in omega arith)
-      go (refused y') e w = let z : x.answer ≡ Refused y' = ap (λ y. y.answer) w in e ∙ ap refused (let o : y' ≡ y = cc in o)
+      go (means a) e w = let z : x.answer ≡ Ok tt = ap (λ y. y.answer) w in absurd (cc)
+      go (refused y') e w = let z : x.answer ≡ Err y' = ap (λ y. y.answer) w in e ∙ ap refused (let o : y' ≡ y = cc in o)

@@ -5,7 +5,7 @@ use mathlib.Core.List.{List, [], ◌∷◌, ◌++◌, append-nil}
 use native.Mathlib.Omega.{arith}
 use borrow.Author.Tests.{lt-leb}
 use lib.ListN.{length, length-append}
-use Rattle.format.specs.declared.Answer.TheVariants.{Accepted}
+use Rattle.std.specs.Prelude.{Ok}
 use Rattle.format.specs.declared.Refusal.TheVariants.{RuleMany}
 use Rattle.book.specs.Limits.{most_rules}
 use Rattle.book.specs.Content.{nothing}
@@ -24,7 +24,7 @@ use Rattle.format.proofs.Written.{rule-read, length-repeated, repeated-last, Sta
 abbrev one : List ℕ
 one = 0x52 ∷ 0 ∷ 2 ∷ 0 ∷ 97 ∷ []
 
-one-sound : (n at : ℕ) → n < most_rules → judge_rule n 0 at (0 ∷ 97 ∷ []) ≡ Accepted
+one-sound : (n at : ℕ) → n < most_rules → judge_rule n 0 at (0 ∷ 97 ∷ []) ≡ Ok tt
 unfolding judge_rule judge_symbols judge_symbol first_of
 one-sound n at h = rw (lt-leb most_rules n h)
 

@@ -2,198 +2,138 @@
 #![tactic(auto)]
 
 ghost use Rattle.std.specs.Prelude.{◌≡◌, ◌+◌, ◌^◌, ◌<◌, ◌≤◌, length};
-ghost use Rattle.book.specs.Content.{nothing};
+ghost use Rattle.book.specs.Content.{nothing, record_of};
 ghost use Rattle.format.specs.Format.{judge_picture, judge_symbols, judge_rule};
 ghost use Rattle.reader.specs.Handed.{read_of};
-ghost use Rattle.reader.specs.Leaves.{map_after, symbols_after, lengths_after, ArraysHold, TakesField, TakesAll};
+ghost use Rattle.reader.specs.Leaves.{picture_after, rule_after, TakesField, TakesAll};
 
-use book::{Book, Pictures};
-use format::{Answer, Head, Refusal};
+use book::Book;
+use format::{Field, Refusal};
 
-// The answer beside the record.
+// The answer beside the record, since a refused read hands back the empty record (paper).
 #[derive(Drop)]
 pub struct ReadBook {
-    pub answer: Answer,
+    pub answer: Result<(), Refusal>,
     pub book: Book,
-}
-
-// What was taken: the place after it, and how many pictures and rules there are then; or the refusal.
-#[derive(Drop)]
-enum Progress {
-    Taken(usize, u8, usize),
-    Stopped(Refusal),
 }
 
 // ---- a rule's symbols
 
 // What the symbols of a rule, whose body starts at `start`, are answered after `pictures` pictures: the first that is at fault counts.
-fn judge_symbols(body: &[u8], start: usize, pictures: u8) -> Answer
+fn judge_symbols(body: &[u8], start: usize, pictures: u8) -> Result<(), Refusal>
     requires { start + length body.now ≤ 2 ^ 64 }
     ensures { result ≡ judge_symbols pictures start body.now }
 {
-    let mut i: usize = 0;
-    while i + 1 < body.len() {
-        let kind = body[i];
+    for (i, pair) in body.chunks_exact(2).enumerate() {
+        let kind = pair[0];
         if 1 < kind {
-            return Answer::Refused(Refusal::UnknownKind(start + i));
+            return Err(Refusal::UnknownKind(start + 2 * i));
         }
-        if kind == 1 {
-            if pictures <= body[i + 1] {
-                return Answer::Refused(Refusal::UndefinedPicture(start + i));
-            }
+        if kind == 1 && pictures <= pair[1] {
+            return Err(Refusal::UndefinedPicture(start + 2 * i));
         }
-        i += 2;
     }
-    Answer::Accepted
+    Ok(())
 }
 
 // ---- a field
 
-// The picture at `at`, the next after `pictures`: the map has it where it is accepted.
-fn take_picture(map: &mut Pictures, pictures: u8, body: &[u8], at: usize) -> Answer
-    ensures judges { result ≡ judge_picture pictures at body.now }
-    ensures marks { map.new ≡ map_after result map.old pictures body.now }
+// A body and where its field stands are two parameters, as `judge_picture` and `judge_rule` of specs/ take them.
+
+// The picture at `at`: the book has it where it is accepted.
+#[tactic(auto, unfolding(format::specs::Format::judge_picture))]
+fn take_picture(book: &mut Book, body: &[u8], at: usize) -> Result<(), Refusal>
+    ensures judges { result ≡ judge_picture book.old.pictures at body.now }
+    ensures grows { book.new ≡ picture_after result book.old body.now }
 {
-    if Book::PICTURES <= pictures {
-        return Answer::Refused(Refusal::PictureMany(at));
+    if Book::PICTURES <= book.pictures {
+        return Err(Refusal::PictureMany(at));
     }
     if !format::is_ascending(body) {
-        return Answer::Refused(Refusal::PictureBody(at));
+        return Err(Refusal::PictureBody(at));
     }
-    Book::add_picture(map, pictures, body);
-    Answer::Accepted
+    book.add_picture(body);
+    Ok(())
 }
 
-// What the rule at `at` is answered after `rules` rules and `pictures` pictures.
-fn judge_rule(rules: usize, pictures: u8, body: &[u8], at: usize) -> Answer
+// What the rule at `at` is answered.
+#[tactic(auto, unfolding(format::specs::Format::judge_rule))]
+fn judge_rule(book: &Book, body: &[u8], at: usize) -> Result<(), Refusal>
     requires { at + 3 + length body.now < 2 ^ 64 }
-    ensures { result ≡ judge_rule rules pictures at body.now }
+    ensures { result ≡ judge_rule book.now.rules book.now.pictures at body.now }
 {
-    if Book::RULES <= rules {
-        return Answer::Refused(Refusal::RuleMany(at));
+    if Book::RULES <= book.rules {
+        return Err(Refusal::RuleMany(at));
     }
     if 2 * Book::SYMBOLS < body.len() {
-        return Answer::Refused(Refusal::RuleLong(at));
+        return Err(Refusal::RuleLong(at));
     }
-    if body.len() == 0 {
-        return Answer::Refused(Refusal::RuleBody(at));
+    if body.is_empty() || body.len() % 2 == 1 {
+        return Err(Refusal::RuleBody(at));
     }
-    if body.len() % 2 == 1 {
-        return Answer::Refused(Refusal::RuleBody(at));
-    }
-    judge_symbols(body, at + 3, pictures)
+    judge_symbols(body, at + 3, book.pictures)
 }
 
-// The rule at `at`, the next after `rules`: the arrays have its symbols and its length where it is accepted.
-fn take_rule(
-    symbols: &mut [u16; Book::PLACES],
-    lengths: &mut [u8; Book::RULES],
-    pictures: u8,
-    rules: usize,
-    body: &[u8],
-    at: usize,
-) -> Answer
+// The rule at `at`: the book has it where it is accepted.
+fn take_rule(book: &mut Book, body: &[u8], at: usize) -> Result<(), Refusal>
     requires { at + 3 + length body.now < 2 ^ 64 }
-    ensures judges { result ≡ judge_rule rules pictures at body.now }
-    ensures symbols_grown { symbols.new ≡ symbols_after result symbols.old rules body.now }
-    ensures lengths_grown { lengths.new ≡ lengths_after result lengths.old rules body.now }
+    ensures judges { result ≡ judge_rule book.old.rules book.old.pictures at body.now }
+    ensures grows { book.new ≡ rule_after result book.old body.now }
 {
-    match judge_rule(rules, pictures, body, at) {
-        Answer::Accepted => {
-            Book::add_rule(symbols, lengths, rules, body);
-            Answer::Accepted
-        }
-        Answer::Refused(why) => Answer::Refused(why),
-    }
+    judge_rule(book, body, at)?;
+    book.add_rule(body);
+    Ok(())
 }
 
-// The field at `at`, after what the arrays and the counts hold.
-fn field(
-    symbols: &mut [u16; Book::PLACES],
-    lengths: &mut [u8; Book::RULES],
-    map: &mut Pictures,
-    pictures: u8,
-    rules: usize,
-    bytes: &[u8],
-    at: usize,
-) -> Progress
-    ensures { TakesField symbols.old lengths.old map.old pictures rules bytes.now at
-        result symbols.new lengths.new map.new }
+// The field at `at`, after what the book holds: where it ends.
+#[tactic(auto, using(crate::proofs::Steps::steps), unfolding(format::specs::Format::field_at, format::specs::Format::field_of))]
+fn field(book: &mut Book, bytes: &[u8], at: usize) -> Result<usize, Refusal>
+    ensures { TakesField book.old bytes.now at result book.new }
 {
-    match format::head_at(bytes, at) {
-        Head::Short => Progress::Stopped(Refusal::Cut(at)),
-        Head::Unknown => Progress::Stopped(Refusal::OtherTag(at)),
-        Head::Picture(start, end) => {
-            match take_picture(map, pictures, &bytes[start..end], at) {
-                Answer::Accepted => Progress::Taken(end, pictures + 1, rules),
-                Answer::Refused(why) => Progress::Stopped(why),
-            }
+    match format::head_at(bytes, at)? {
+        Field::Picture(start, end) => {
+            take_picture(book, &bytes[start..end], at)?;
+            Ok(end)
         }
-        Head::Rule(start, end) => {
-            match take_rule(symbols, lengths, pictures, rules, &bytes[start..end], at) {
-                Answer::Accepted => Progress::Taken(end, pictures, rules + 1),
-                Answer::Refused(why) => Progress::Stopped(why),
-            }
+        Field::Rule(start, end) => {
+            take_rule(book, &bytes[start..end], at)?;
+            Ok(end)
         }
     }
 }
 
 // ---- a book
 
-// All fields, from arrays that hold nothing on: the two counts, or the first refusal.
-fn take_all(
-    symbols: &mut [u16; Book::PLACES],
-    lengths: &mut [u8; Book::RULES],
-    map: &mut Pictures,
-    bytes: &[u8],
-) -> Progress
-    requires { ArraysHold symbols.old lengths.old map.old 0 0 nothing }
-    ensures { TakesAll bytes.now result symbols.new lengths.new map.new }
+// All fields, from a book that holds nothing on, or the first refusal.
+#[tactic(auto, using(crate::proofs::Readings::readings))]
+fn take_all(book: &mut Book, bytes: &[u8]) -> Result<(), Refusal>
+    requires { book.old ≡ record_of nothing }
+    ensures { TakesAll bytes.now result book.new }
 {
-    let mut pictures: u8 = 0;
-    let mut rules: usize = 0;
+    // Each field tells where the next begins.
     let mut at: usize = 0;
     while at < bytes.len() {
-        let step = field(symbols, lengths, map, pictures, rules, bytes, at);
-        match step {
-            Progress::Taken(next, p, n) => {
-                pictures = p;
-                rules = n;
-                at = next;
-            }
-            Progress::Stopped(why) => {
-                return Progress::Stopped(why);
-            }
-        }
+        at = field(book, bytes, at)?;
     }
-    if rules == 0 {
-        return Progress::Stopped(Refusal::NoRule(bytes.len()));
+    if book.rules == 0 {
+        return Err(Refusal::NoRule(bytes.len()));
     }
-    Progress::Taken(at, pictures, rules)
+    Ok(())
 }
 
-// The book that the bytes hold, or the first refusal with the empty book. The arrays are lent, and the record is put together once.
+// The book that the bytes hold, or the first refusal with the empty book.
 pub fn read(bytes: &[u8]) -> ReadBook
     ensures { result ≡ read_of bytes.now }
 {
-    let blank = Book::empty();
-    let mut symbols = blank.symbols;
-    let mut lengths = blank.lengths;
-    let mut map = blank.picture;
-    match take_all(&mut symbols, &mut lengths, &mut map, bytes) {
-        Progress::Taken(_, pictures, rules) => ReadBook {
-            answer: Answer::Accepted,
-            book: Book {
-                symbols: symbols,
-                lengths: lengths,
-                picture: map,
-                pictures: pictures,
-                rules: rules,
-            },
+    let mut book = Book::empty();
+    match take_all(&mut book, bytes) {
+        Ok(()) => ReadBook {
+            answer: Ok(()),
+            book,
         },
-        Progress::Stopped(why) => ReadBook {
-            answer: Answer::Refused(why),
-            book: blank,
+        Err(why) => ReadBook {
+            answer: Err(why),
+            book: Book::empty(),
         },
     }
 }

@@ -3,7 +3,6 @@ pub mod Ranks
 pub mod Laws
 pub mod Tables
 pub mod Wholes
-pub mod Steps
 pub mod Cases
 pub mod Demands
 pub mod Examples

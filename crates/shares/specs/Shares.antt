@@ -1,9 +1,8 @@
 -- Shares of a total in thousandths: each rounded down, then one more each to the largest remainders. Assumes nothing.
-use Rattle.std.specs.Prelude.{Bool, cond, List, ◌≡◌, ℕ, ◌+◌, ◌-◌, ◌*◌, ◌/◌, ◌%◌, ◌≤◌, ◌<◌, ltb, eqb, get_or, replicate}
+use Rattle.std.specs.Prelude.{Result, Ok, Err, Bool, cond, List, ◌≡◌, ℕ, ◌+◌, ◌-◌, ◌*◌, ◌/◌, ◌%◌, ◌≤◌, ◌<◌, ltb, eqb, get_or, replicate}
 use Rattle.book.specs.Content.{table}
 use Rattle.book.specs.Limits.{most_rules}
-use Rattle.shares.specs.declared.Divided.{Divided}
-use Rattle.shares.specs.declared.Divided.TheVariants.{Given, Past}
+use Rattle.shares.specs.declared.Past.{Past}
 use Rattle.shares.specs.declared.Shares.{Shares}
 use Rattle.shares.specs.Below.{sum_below, one_if}
 use Rattle.shares.specs.Ranks.{rank}
@@ -52,8 +51,8 @@ pub record ToShare (totals : List ℕ) (whole : ℕ) : Type 0 where
   pub most : whole ≤ limit
 
 -- The answer and the shares: all 0 where the whole is past the limit, or 0.
-abbrev pub share_answer : List ℕ → Divided
-share_answer totals = cond (ltb limit (total_of totals)) Past Given
+abbrev pub share_answer : List ℕ → Result Unit Past
+share_answer totals = cond (ltb limit (total_of totals)) (Err (record {})) (Ok tt)
 
 abbrev pub parts_shared : List ℕ → List ℕ
 parts_shared totals =
@@ -64,11 +63,18 @@ parts_shared totals =
 abbrev pub shares_of : List ℕ → Shares
 shares_of totals = record { answer = share_answer totals; parts = parts_shared totals }
 
--- The paper's number of an answer, and its value.
-abbrev pub number_of : Divided → ℕ
-number_of Given = 0
-number_of Past = 20
+-- The paper's number of a refusal, and its value.
+abbrev pub number : Past → ℕ
+number past = 20
 
-abbrev pub value_of : Divided → ℕ
-value_of Given = 0
-value_of Past = limit
+abbrev pub value : Past → ℕ
+value past = limit
+
+-- and of an answer
+abbrev pub number_of : Result Unit Past → ℕ
+number_of (Ok given) = 0
+number_of (Err past) = number past
+
+abbrev pub value_of : Result Unit Past → ℕ
+value_of (Ok given) = 0
+value_of (Err past) = value past

@@ -9,6 +9,7 @@ use native.Mathlib.Decide.{dec_lt}
 use borrow.Author.Tests.{lt-ltb, le-ltb}
 use lib.ListN.{length, get_or, drop, replicate, length-append, length-drop, length-replicate, get_or-append}
 use lib.Seq.{drop-append_seam}
+use Rattle.std.specs.Prelude.{Result, Ok, Err}
 use Rattle.sets.specs.Table.{rules_at}
 use Rattle.meaning.specs.Rules.{Rules}
 use Rattle.meaning.specs.Tables.{Five}
@@ -22,85 +23,76 @@ use Rattle.promised.specs.Promise.{Answers, builds, refuses as refuses-build}
 use Rattle.walk.specs.Walk.{written}
 use Rattle.lent.proofs.HasRows.{rows-lent, no_rows, few-lent}
 use Rattle.listed.proofs.Whole.{built}
-use Rattle.lines.specs.declared.Pass.{Pass}
-use Rattle.lines.specs.declared.Pass.TheVariants.{Through, Ends}
-use Rattle.answers.specs.declared.Tallied.{Tallied}
-use Rattle.answers.specs.declared.Tallied.TheVariants.{Accepted, TooLong, BadRows, FewSums, BadLine, Damaged}
-use Rattle.lines.specs.Lines.{lines_of, check_of}
+use Rattle.lines.specs.declared.BadLine.{BadLine}
+use Rattle.answers.specs.declared.Damaged.{Damaged}
+use Rattle.answers.specs.declared.TallyRefusal.{TallyRefusal}
+use Rattle.answers.specs.declared.TallyRefusal.TheVariants as refusal
+use Rattle.lines.specs.Lines.{Pass, lines_of, check_of}
 use Rattle.answers.specs.Tallied.{number_of, value_of}
 use Rattle.tally.specs.Tally.{lines_pass, sums_of, move_by, judged, walked, buffer_of}
 use Rattle.lines.specs.Profile.{AllSound}
 use Rattle.summed.specs.Totals.{TallyCall, tally_answer, sums_after, TallyAnswers, Ready, reports_in, total_where, TallyRefusals, TallyRefuses, SumsWithin, occurs_in, OverProfile, Summed, Sums, Tells, Tallies}
-use Rattle.tally.proofs.Walks.{lines-length}
+use Rattle.tally.proofs.Walks.{sums_length}
 use Rattle.tally.proofs.Answers.{tallied}
 use Rattle.summed.proofs.Occurring.{occurrences}
 use Rattle.summed.proofs.Walked.{frame_reports}
-use Rattle.summed.proofs.Lost.{none_lost, lost_at}
+use Rattle.summed.proofs.Lost.{none_lost, first_lost}
 use Rattle.summed.proofs.Totals.{sum_is, total-le, lines-through, sum_occurs}
 use Rattle.lines.proofs.First.{checked, broken_at}
 
 -- ---- over any tables
 
--- the ways of an answer
-untouched : (a : Tallied) (sums old : List ℕ) → number_of a ≢ 0 → buffer_of a sums old ≡ old
-untouched Accepted sums old ne = absurd (ne refl)
-untouched TooLong sums old ne = refl
-untouched (BadRows rows) sums old ne = refl
-untouched (FewSums places) sums old ne = refl
-untouched (BadLine at) sums old ne = refl
-untouched (Damaged at) sums old ne = refl
+-- each refusal has a number of its own, and none is 0
+numbered_why : (e : TallyRefusal) → number_of (Err e) ≢ 0
+numbered_why refusal.TooLong z = omega arith
+numbered_why (refusal.BadRows rows) z = omega arith
+numbered_why (refusal.FewSums places) z = omega arith
+numbered_why (refusal.BadLine at) z = omega arith
+numbered_why (refusal.Damaged at) z = omega arith
 
-later : (a : Tallied) (sums old : List ℕ) → length sums ≡ most_rules → drop most_rules (buffer_of a sums old) ≡ drop most_rules old
-unfolding written
-later Accepted sums old e = ap (λ n. drop n (sums ++ drop (length sums) old)) (sym e) ∙ drop-append_seam sums (drop (length sums) old) ∙ ap (λ n. drop n old) e
-later TooLong sums old e = refl
-later (BadRows rows) sums old e = refl
-later (FewSums places) sums old e = refl
-later (BadLine at) sums old e = refl
-later (Damaged at) sums old e = refl
+untouched : (a : Result Unit TallyRefusal) (sums old : List ℕ) → number_of a ≢ 0 → buffer_of a sums old ≡ old
+untouched (Ok u) sums old ne = absurd (ne refl)
+untouched (Err e) sums old ne = refl
 
-long : (a : Tallied) (sums old : List ℕ) → length sums ≡ most_rules → (number_of a ≡ 0 → most_rules ≤ length old) → length (buffer_of a sums old) ≡ length old
+later : (a : Result Unit TallyRefusal) (sums old : List ℕ) → length sums ≡ most_rules → drop most_rules (buffer_of a sums old) ≡ drop most_rules old
 unfolding written
-long Accepted sums old e h = simp (length-append, length-drop) (omega (arith, h refl))
-long TooLong sums old e h = refl
-long (BadRows rows) sums old e h = refl
-long (FewSums places) sums old e h = refl
-long (BadLine at) sums old e h = refl
-long (Damaged at) sums old e h = refl
+later (Ok u) sums old e = ap (λ n. drop n (sums ++ drop (length sums) old)) (sym e) ∙ drop-append_seam sums (drop (length sums) old) ∙ ap (λ n. drop n old) e
+later (Err why) sums old e = refl
 
-accepted : (a : Tallied) (sums old : List ℕ) (k : ℕ) → number_of a ≡ 0 → k < length sums → get_or (buffer_of a sums old) k 0 ≡ get_or sums k 0
+long : (a : Result Unit TallyRefusal) (sums old : List ℕ) → length sums ≡ most_rules → (number_of a ≡ 0 → most_rules ≤ length old) → length (buffer_of a sums old) ≡ length old
 unfolding written
-accepted Accepted sums old k e l = get_or-append sums (drop (length sums) old) 0 k l
-accepted TooLong sums old k e l = absurd (omega arith)
-accepted (BadRows rows) sums old k e l = absurd (omega arith)
-accepted (FewSums places) sums old k e l = absurd (omega arith)
-accepted (BadLine at) sums old k e l = absurd (omega arith)
-accepted (Damaged at) sums old k e l = absurd (omega arith)
+long (Ok u) sums old e h = simp (length-append, length-drop) (omega (arith, h refl))
+long (Err why) sums old e h = refl
+
+accepted : (a : Result Unit TallyRefusal) (sums old : List ℕ) (k : ℕ) → number_of a ≡ 0 → k < length sums → get_or (buffer_of a sums old) k 0 ≡ get_or sums k 0
+unfolding written
+accepted (Ok u) sums old k e l = get_or-append sums (drop (length sums) old) 0 k l
+accepted (Err why) sums old k e l = absurd (numbered_why why e)
 
 module _ (w : TallyCall) where
   abbrev found : List ℕ
   found = sums_of (move_by w.tables w.n) (rules_at w.tables.out) w.profile
 
   found_length : length found ≡ most_rules
-  found_length = lines-length (move_by w.tables w.n) (rules_at w.tables.out) w.profile (replicate most_rules 0) ∙ length-replicate {A = ℕ} most_rules 0
+  found_length = sums_length (move_by w.tables w.n) (rules_at w.tables.out) w.profile (replicate most_rules 0) ∙ length-replicate {A = ℕ} most_rules 0
 
-  answers : {a : Tallied} → tally_answer w ≡ a → TallyAnswers w (number_of a) (value_of a)
+  answers : {a : Result Unit TallyRefusal} → tally_answer w ≡ a → TallyAnswers w (number_of a) (value_of a)
   answers e = record { number_is = rw e; value_is = rw e }
 
   -- ---- before the lines
 
   too_long : most_bytes < length w.profile → TallyAnswers w 11 most_bytes
-  too_long l = answers {a = TooLong} (rw (lt-ltb most_bytes (length w.profile) l))
+  too_long l = answers {a = Err refusal.TooLong} (rw (lt-ltb most_bytes (length w.profile) l))
 
   bad_rows : length w.profile ≤ most_bytes → (w.n ≡ 0) ⊎ (lent w.tables < w.n) → TallyAnswers w 12 w.n
-  bad_rows short (inl q) = answers {a = BadRows w.n} (rw (le-ltb most_bytes (length w.profile) short, no_rows w.tables w.n q))
+  bad_rows short (inl q) = answers {a = Err (refusal.BadRows w.n)} (rw (le-ltb most_bytes (length w.profile) short, no_rows w.tables w.n q))
   bad_rows short (inr l) =
       let ne : w.n ≢ 0 = omega arith in
-      answers {a = BadRows w.n} (rw (le-ltb most_bytes (length w.profile) short, few-lent w.tables w.n ne l))
+      answers {a = Err (refusal.BadRows w.n)} (rw (le-ltb most_bytes (length w.profile) short, few-lent w.tables w.n ne l))
 
   few_sums : length w.profile ≤ most_bytes → w.n ≢ 0 → w.n ≤ lent w.tables → length w.sums < most_rules → TallyAnswers w 16 (length w.sums)
   few_sums short ne lends l =
-      answers {a = FewSums (length w.sums)} (rw (le-ltb most_bytes (length w.profile) short, rows-lent w.tables w.n ne lends, lt-ltb (length w.sums) most_rules l))
+      answers {a = Err (refusal.FewSums (length w.sums))} (rw (le-ltb most_bytes (length w.profile) short, rows-lent w.tables w.n ne lends, lt-ltb (length w.sums) most_rules l))
 
   -- it is refused before its lines, or gets to them
   data Start : Type 0 where
@@ -135,13 +127,13 @@ module _ (w : TallyCall) where
 
   -- ---- by the passes
 
-  answer_is : Ready w → {q : Pass} → check_of w.profile ≡ q → tally_answer w ≡ judged q (walked (lines_pass (move_by w.tables w.n) w.profile) Accepted)
+  answer_is : Ready w → {q : Pass BadLine} → check_of w.profile ≡ q → tally_answer w ≡ judged q (walked (lines_pass (move_by w.tables w.n) w.profile) (Ok tt))
   answer_is x e = sym (tallied w.tables w.n w.profile (length w.sums) x.short (rows-lent w.tables w.n x.some x.lends) x.places refl e)
 
   -- where the lines are sound and the walks' pass is q
-  walks_answer : Ready w → AllSound (lines_of w.profile) → {q : Pass} → lines_pass (move_by w.tables w.n) w.profile ≡ q
-      → TallyAnswers w (number_of (walked q Accepted)) (value_of (walked q Accepted))
-  walks_answer x s {q} e = answers {a = walked q Accepted} (answer_is x (checked w.profile s) ∙ ap (λ p. walked p Accepted) e)
+  walks_answer : Ready w → AllSound (lines_of w.profile) → {q : Pass Damaged} → lines_pass (move_by w.tables w.n) w.profile ≡ q
+      → TallyAnswers w (number_of (walked q (Ok tt))) (value_of (walked q (Ok tt)))
+  walks_answer x s {q} e = answers {a = walked q (Ok tt)} (answer_is x (checked w.profile s) ∙ ap (λ p. walked p (Ok tt)) e)
 
   -- the sums of an accepted call
   sums_are : TallyAnswers w 0 0 → (k : ℕ) → k < most_rules → get_or (sums_after w) k 0 ≡ get_or found k 0
@@ -163,7 +155,7 @@ module _ (w : TallyCall) where
     bad_rows = bad_rows;
     few_sums = few_sums;
     bad_line = λ x i b. answers (answer_is x (broken_at w.profile i b));
-    damaged = λ x s i j c f. walks_answer x s (lost_at w x i j c f);
+    damaged = λ x s i j c f. walks_answer x s (first_lost w x i j c f);
     accepted = λ x s h. walks_answer x s (none_lost w x h);
     sums = sums-told start;
     untouched = untouched (tally_answer w) found w.sums;
@@ -179,12 +171,12 @@ sums-within w a k l = rw ((refuses w).sums a k l) (total-le (reports_in w.tables
 
 -- ---- over the tables of rules
 
-no_damage : (q : Pass) → number_of (judged q (walked Through Accepted)) ≢ 13
-no_damage Through = λ z. omega arith
-no_damage (Ends at) = λ z. omega arith
+no_damage : (q : Pass BadLine) → number_of (judged q (walked (Ok tt) (Ok tt))) ≢ 13
+no_damage (Ok u) = λ z. omega arith
+no_damage (Err e) = λ z. omega arith
 
 module _ {r : Rules} {w : TallyCall} (over : OverProfile r w) where
-  walks_through : w.n ≤ lent w.tables → lines_pass (move_by w.tables w.n) w.profile ≡ Through
+  walks_through : w.n ≤ lent w.tables → lines_pass (move_by w.tables w.n) w.profile ≡ Ok tt
   walks_through lends = lines-through over.tables lends w.profile over.bytes
 
   undamaged : Start w → number_of (tally_answer w) ≢ 13

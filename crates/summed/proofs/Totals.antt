@@ -7,6 +7,7 @@ use Prim.Native.Nat.{ℕ, suc, ◌+◌, ◌≤◌, ◌<◌}
 use native.Mathlib.Nat.{add-zero, zero-add, add_assoc}
 use native.Mathlib.Omega.{arith}
 use lib.ListN.{length, get_or, replicate}
+use Rattle.std.specs.Prelude.{Option, Ok}
 use Rattle.rows.specs.Rows.{ByteText, IsRow}
 use Rattle.sets.specs.Sets.{has}
 use Rattle.sets.specs.Sums.{sum_over}
@@ -22,7 +23,6 @@ use Rattle.book.specs.Limits.{most_rules}
 use Rattle.lent.specs.Lent.{lent}
 use Rattle.one_byte.specs.declared.Moved.{Moved}
 use Rattle.listed.proofs.Demands.{moves}
-use Rattle.lines.specs.declared.Pass.TheVariants.{Through}
 use Rattle.lines.specs.Lines.{lines_of}
 use Rattle.tally.specs.Tally.{pass_from, rules_from, frame_pass, frame_rules, rules_over, line_pass, line_sums, sums_over, lines_pass, lines_sums, sums_of, move_by}
 use Rattle.lines.specs.Profile.{frames_in, count_in, counts}
@@ -39,7 +39,7 @@ either : (a b : Bool) (count : ℕ) → cond (a || b) count 0 ≡ cond a count (
 either true b count = refl
 either false b count = refl
 
-module _ (move : ℕ → ℕ → Moved) (rules : ℕ → ℕ) (k : ℕ) (small : k < most_rules) where
+module _ (move : ℕ → ℕ → Option Moved) (rules : ℕ → ℕ) (k : ℕ) (small : k < most_rules) where
   -- whether a frame reports rule k
   abbrev reporting : List ℕ → Bool
   reporting frame = has (frame_rules move rules frame) k
@@ -94,7 +94,7 @@ module _ (test : List ℕ → Bool) where
   total-le profile = sum_le (part_of test) count_in (λ line. once-le (count_in line) (frames_in line)) (lines_of profile)
 
 module _ {r : Rules} {b : Five} {n : ℕ} (tables : Tables r b n) (lends : n ≤ lent b) where
-  abbrev move : ℕ → ℕ → Moved
+  abbrev move : ℕ → ℕ → Option Moved
   move = move_by b n
 
   abbrev rules : ℕ → ℕ
@@ -102,21 +102,21 @@ module _ {r : Rules} {b : Five} {n : ℕ} (tables : Tables r b n) (lends : n ≤
 
   -- ---- each walk gets through
 
-  from_through : (frame : List ℕ) → ByteText frame → (at : ℕ) {t : List ℕ} {i : ℕ} → IsRow (Same r) tables.texts t i → pass_from move at i frame ≡ Through
+  from_through : (frame : List ℕ) → ByteText frame → (at : ℕ) {t : List ℕ} {i : ℕ} → IsRow (Same r) tables.texts t i → pass_from move at i frame ≡ Ok tt
   unfolding pass_from
   from_through [] bytes at x = refl
   from_through (c ∷ frame) bytes at {t} {i} x =
       let (e, m, o, y) = moves r b n tables lends t i c x (bytes 0) in
       rw m (from_through frame (λ j. bytes (suc j)) (at + 1) y)
 
-  frame_through : (at : ℕ) (frame : List ℕ) → ByteText frame → frame_pass move at frame ≡ Through
+  frame_through : (at : ℕ) (frame : List ℕ) → ByteText frame → frame_pass move at frame ≡ Ok tt
   unfolding frame_pass
   frame_through at frame bytes = from_through frame bytes at (row_first tables)
 
-  line_through : (at : ℕ) (line : List ℕ) → ByteText line → line_pass move at line ≡ Through
+  line_through : (at : ℕ) (line : List ℕ) → ByteText line → line_pass move at line ≡ Ok tt
   line_through at line bytes = frames_pass move at line ∙ pass_through (frame_pass move) (frames_in line) at (λ i l. frame_through _ _ (frames-bytes line bytes i))
 
-  pub lines-through : (profile : List ℕ) → ByteText profile → lines_pass move profile ≡ Through
+  pub lines-through : (profile : List ℕ) → ByteText profile → lines_pass move profile ≡ Ok tt
   unfolding lines_pass
   lines-through profile bytes = pass_through (line_pass move) (lines_of profile) 0 (λ i l. line_through _ _ (lines-bytes profile bytes i))
 

@@ -1,5 +1,5 @@
 -- What a tally sums up, in words of the rules and the profile alone. A text that is read is kept latest byte first. Assumes nothing.
-use Rattle.std.specs.Prelude.{Bool, true, false, cond, ◌||◌, List, [], ◌∷◌, ◌⊎◌, ◌↔◌, ◌≢◌, ◌≡◌, ℕ, ◌+◌, ◌≤◌, ◌<◌, length, get_or, drop}
+use Rattle.std.specs.Prelude.{Bool, true, false, Result, cond, ◌||◌, List, [], ◌∷◌, ◌⊎◌, ◌↔◌, ◌≢◌, ◌≡◌, ℕ, ◌+◌, ◌≤◌, ◌<◌, length, get_or, drop}
 use Rattle.rows.specs.Rows.{ByteText}
 use Rattle.sets.specs.Sets.{has, among}
 use Rattle.sets.specs.Sums.{sum_over}
@@ -12,16 +12,16 @@ use Rattle.book.specs.Content.{Content}
 use Rattle.format.specs.Format.{means, meaning_of}
 use Rattle.book.specs.Meant.{rules_of}
 use Rattle.lent.specs.Lent.{lent}
-use Rattle.promised.specs.Promise.{number_of as number_built, value_of as value_built, Promise}
-use Rattle.promised.specs.declared.Built.{Built}
+use Rattle.promised.specs.Promise.{Built, number_of as number_built, value_of as value_built, Promise}
 use Rattle.answers.specs.declared.Walked.{Walked}
+use Rattle.answers.specs.declared.WalkRefusal.{WalkRefusal}
 use Rattle.answers.specs.Walked.{number_of as number_of_walk, value_of as value_of_walk}
 use Rattle.walk.specs.Walk.{reports_of, walk_of}
 use Rattle.meaning.specs.Occurrences.{Occurs}
 use Rattle.lines.specs.Lines.{lines_of}
 use Rattle.lines.specs.Written.{start_of}
 use Rattle.lines.specs.Profile.{AllSound, FirstBroken, frames_in, count_in, frame_at, counts}
-use Rattle.answers.specs.declared.Tallied.{Tallied}
+use Rattle.answers.specs.declared.TallyRefusal.{TallyRefusal}
 use Rattle.answers.specs.Tallied.{number_of, value_of}
 use Rattle.tally.specs.Tally.{move_by, sums_of, tally_of, buffer_of}
 
@@ -34,7 +34,7 @@ pub record TallyCall : Type 0 where
   pub sums : List ℕ
 
 -- its answer, and the sums buffer after it
-abbrev pub tally_answer : TallyCall → Tallied
+abbrev pub tally_answer : TallyCall → Result Unit TallyRefusal
 tally_answer w = tally_of w.tables w.n w.profile (length w.sums)
 
 abbrev pub sums_after : TallyCall → List ℕ
@@ -55,7 +55,7 @@ pub record Ready (w : TallyCall) : Type 0 where
   pub places : most_rules ≤ length w.sums
 
 -- the walk over a frame as a text of its own; 13 comes before 14, so that it has no room does not matter
-abbrev pub walk_over : TallyCall → ℕ → ℕ → Walked
+abbrev pub walk_over : TallyCall → ℕ → ℕ → Result Walked WalkRefusal
 walk_over w i j = walk_of w.tables w.n (frame_at w.profile i j) 0
 
 -- frame j of line i is the first whose walk is refused with 13, at its byte x

@@ -1,22 +1,21 @@
 -- The lines that the summer writes. Assumes nothing.
-use Rattle.std.specs.Prelude.{cond, List, ◌≡◌, ℕ, ◌+◌, ◌*◌, ◌≤◌, eqb, length, replicate}
+use Rattle.std.specs.Prelude.{Result, Ok, Err, List, ℕ, ◌+◌, ◌*◌, ◌≤◌, length, replicate}
 use Rattle.sets.specs.Table.{rules_at}
-use Rattle.inputs.specs.Inputs.{lent_tables}
-use Rattle.output.specs.Printed.{Puts, refused_line, answer_lines}
+use Rattle.output.specs.Printed.{Puts, refused_line}
 use Rattle.shown.specs.Shown.{sum_lines}
 use Rattle.meaning.specs.Tables.{Five}
-use Rattle.promised.specs.declared.Built.{Built}
-use Rattle.promised.specs.Promise.{Promise, number_of as built_number, value_of as built_value}
-use Rattle.answers.specs.declared.Tallied.{Tallied}
-use Rattle.answers.specs.Tallied.{number_of, value_of}
+use Rattle.answers.specs.declared.TallyRefusal.{TallyRefusal}
+use Rattle.answers.specs.Tallied.{refusal_number, refusal_value}
 use Rattle.tally.specs.Tally.{tally_of, sums_of, move_by, buffer_of}
+use Rattle.program.specs.Program.{ProgramAnswer}
 
 -- of a tally's answer, with the sums that it left
-abbrev pub tallied_lines : Tallied → List ℕ → List ℕ
-tallied_lines x sums = cond (eqb (number_of x) 0) (sum_lines 0 sums) (refused_line (number_of x) (value_of x))
+abbrev pub tallied_lines : Result Unit TallyRefusal → List ℕ → List ℕ
+tallied_lines (Ok u) sums = sum_lines 0 sums
+tallied_lines (Err why) sums = refused_line (refusal_number why) (refusal_value why)
 
 -- the sums that a tally with this answer leaves where there were zeros
-abbrev pub left_sums : Tallied → Five → ℕ → List ℕ → List ℕ
+abbrev pub left_sums : Result Unit TallyRefusal → Five → ℕ → List ℕ → List ℕ
 left_sums x b n profile = buffer_of x (sums_of (move_by b n) (rules_at b.out) profile) (replicate 256 0)
 
 -- of the tally over tables of n rows, with room for 256 sums
@@ -36,8 +35,5 @@ abbrev pub sums_room : ℕ
 sums_room = 64 + total_room
 
 -- The summer's answer: a build of the book keeps its promise, and what is written are the lines of what it came to.
-pub record SummerAnswer (book profile answer : List ℕ) : Type 0 where
-  pub built : Built
-  pub tables : Five
-  pub kept : Promise book lent_tables tables built
-  pub lines : answer ≡ answer_lines (built_number built) (built_value built) (total_lines tables (built_value built) profile)
+abbrev pub SummerAnswer : List ℕ → List ℕ → List ℕ → Type 0
+SummerAnswer book profile answer = ProgramAnswer (λ tables rows. total_lines tables rows profile) book answer

@@ -9,7 +9,10 @@ use borrow.Author.Tests.{eqb-true, eqb-false}
 use lib.Dec.{eqb}
 use lib.ListN.{length, get_or, set, replicate, length-set}
 use lib.Seq.{get_or-set_same, get_or-set_other}
-use Rattle.sets.specs.Sets.{has, members}
+use Rattle.sets.specs.Sets.{has, members, set_of, members_of}
+use Rattle.sets.specs.Table.{row_words}
+use Rattle.sets.proofs.Members.{members-le}
+use Rattle.sets.proofs.Table.{members-whole}
 use Rattle.book.specs.Limits.{most_rules, most_bytes}
 use Rattle.lines.specs.Lines.{most_count}
 use Rattle.tally.specs.Tally.{add_all}
@@ -60,12 +63,16 @@ unfolding add_all
 add_le count h [] sums k = omega arith
 add_le count h (j ∷ ks) sums k = omega (arith, add_le count h ks (set sums j (get_or sums j 0 + count)) k, set-le count sums j k)
 
-pub room-less : {a b : ℕ} {sums : List ℕ} → b ≤ a → Room a sums → Room b sums
-room-less h r = record { fits = λ k. omega (arith, r.fits k) }
+pub room_less : {a b : ℕ} {sums : List ℕ} → b ≤ a → Room a sums → Room b sums
+room_less h r = record { fits = λ k. omega (arith, r.fits k) }
 
 pub room_add : (count a b : ℕ) (ks sums : List ℕ) → count ≤ most_count → length ks + b ≤ a → Room a sums → Room b (add_all count ks sums)
 room_add count a b ks sums h l r = record { fits = λ k. omega (arith, r.fits k, add_le count h ks sums k) }
 
 -- at first there is room for the count of every rule, for each byte of the longest profile
-pub room-zeros : (a : ℕ) → a ≤ most_rules * most_bytes → Room a (replicate most_rules 0)
-room-zeros a h = record { fits = λ k. omega (arith, zero_at most_rules k) }
+pub room_zeros : (a : ℕ) → a ≤ most_rules * most_bytes → Room a (replicate most_rules 0)
+room_zeros a h = record { fits = λ k. omega (arith, zero_at most_rules k) }
+
+-- the members of as many words as a row has are at most all rules
+pub few : (ws : List ℕ) → length ws ≡ row_words → length (members_of ws) ≤ most_rules
+few ws e = rw (members-whole ws e) (members-le most_rules (set_of ws))

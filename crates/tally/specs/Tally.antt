@@ -1,20 +1,20 @@
 -- The tally of a folded profile, as functions on lists: what the walk of each frame reports, what is added, and the answer. What lies behind one
 -- byte's move and a row's rules is not looked at: `move` is any function of a row and a byte, `rules` any function of a row. Assumes nothing.
-use Rattle.std.specs.Prelude.{cond, List, [], ◌∷◌, ℕ, ◌+◌, ltb, length, get_or, set, take, replicate}
+use Rattle.std.specs.Prelude.{Option, Some, None, Result, Ok, Err, cond, List, [], ◌∷◌, ℕ, ◌+◌, ltb, length, get_or, set, take, replicate}
 use Rattle.std.specs.Int.Bits.{bit_or}
 use Rattle.sets.specs.Sets.{members}
 use Rattle.meaning.specs.Tables.{Five}
 use Rattle.book.specs.Limits.{most_rules, most_bytes}
 use Rattle.one_byte.specs.declared.Moved.{Moved}
-use Rattle.one_byte.specs.declared.Moved.TheVariants.{Reached, Lost}
+use Rattle.lent.specs.declared.Machine.{Machine}
 use Rattle.lent.specs.Lent.{has_rows}
 use Rattle.one_byte.specs.Move.{move_of}
 use Rattle.walk.specs.Walk.{written}
-use Rattle.lines.specs.declared.Pass.{Pass}
-use Rattle.lines.specs.declared.Pass.TheVariants.{Through, Ends}
-use Rattle.answers.specs.declared.Tallied.{Tallied}
-use Rattle.answers.specs.declared.Tallied.TheVariants.{Accepted, TooLong, BadRows, FewSums, BadLine, Damaged}
-use Rattle.lines.specs.Lines.{lines_of, frames_of, pass_over, line_of, on_line, check_of}
+use Rattle.answers.specs.declared.Damaged.{Damaged}
+use Rattle.answers.specs.declared.TallyRefusal.{TallyRefusal}
+use Rattle.answers.specs.declared.TallyRefusal.TheVariants as refusal
+use Rattle.lines.specs.declared.BadLine.{BadLine}
+use Rattle.lines.specs.Lines.{Pass, lines_of, frames_of, pass_over, line_of, on_line, check_of}
 
 -- ---- what is added
 
@@ -26,32 +26,36 @@ add_all count (k ∷ rules) sums = add_all count rules (set sums k (get_or sums 
 -- ---- walks
 
 -- f of the row that a move reached, or z where it is lost
-abbrev pub after_move : {A : Type 0} → Moved → (ℕ → A) → A → A
-after_move (Reached row falls) f z = f row
-after_move Lost f z = z
+abbrev pub after_move : {A : Type 0} → Option Moved → (ℕ → A) → A → A
+after_move (Some m) f z = f m.row
+after_move None f z = z
 
-module _ (move : ℕ → ℕ → Moved) where
+-- what is told of a walk that is lost: the byte whose move is
+abbrev pub lost_at : ℕ → Pass Damaged
+lost_at at = Err (record { at = at })
+
+module _ (move : ℕ → ℕ → Option Moved) where
   -- What is left of a frame, from a row on, `at` bytes into the profile: it ends at the byte whose move is lost.
-  unfoldable pub pass_from : ℕ → ℕ → List ℕ → Pass
-  pass_from at row [] = Through
-  pass_from at row (c ∷ frame) = after_move (move row c) (λ to. pass_from (at + 1) to frame) (Ends at)
+  unfoldable pub pass_from : ℕ → ℕ → List ℕ → Pass Damaged
+  pass_from at row [] = Ok tt
+  pass_from at row (c ∷ frame) = after_move (move row c) (λ to. pass_from (at + 1) to frame) (lost_at at)
 
   -- Each frame is walked as a text of its own, from row 0.
-  unfoldable pub frame_pass : ℕ → List ℕ → Pass
+  unfoldable pub frame_pass : ℕ → List ℕ → Pass Damaged
   frame_pass at frame = pass_from at 0 frame
 
-  unfoldable pub stack_pass : ℕ → List ℕ → Pass
+  unfoldable pub stack_pass : ℕ → List ℕ → Pass Damaged
   stack_pass at stack = pass_over frame_pass at (frames_of stack)
 
-  unfoldable pub line_pass : ℕ → List ℕ → Pass
-  line_pass at line = on_line (line_of line) (λ stack count. stack_pass at (take stack line)) Through
+  unfoldable pub line_pass : ℕ → List ℕ → Pass Damaged
+  line_pass at line = on_line (line_of line) (λ stack count. stack_pass at (take stack line)) (Ok tt)
 
-  unfoldable pub lines_pass : List ℕ → Pass
+  unfoldable pub lines_pass : List ℕ → Pass Damaged
   lines_pass profile = pass_over line_pass 0 (lines_of profile)
 
 -- ---- what they report
 
-module _ (move : ℕ → ℕ → Moved) (rules : ℕ → ℕ) where
+module _ (move : ℕ → ℕ → Option Moved) (rules : ℕ → ℕ) where
   -- The set of the rules that what is left of a frame reports.
   unfoldable pub rules_from : ℕ → List ℕ → ℕ
   rules_from row [] = 0
@@ -86,36 +90,32 @@ module _ (move : ℕ → ℕ → Moved) (rules : ℕ → ℕ) where
 -- ---- the answer
 
 -- one byte's move over the tables
-abbrev pub move_by : Five → ℕ → ℕ → ℕ → Moved
+abbrev pub move_by : Five → ℕ → ℕ → ℕ → Option Moved
 move_by b n = move_of b.goto b.fall n
 
 -- over those that a function is lent
-abbrev pub moves_over : List ℕ → List ℕ → ℕ → ℕ → ℕ → Moved
-moves_over goto fall n = move_of goto fall n
+abbrev pub moves_over : Machine → ℕ → ℕ → Option Moved
+moves_over t = move_of t.goto.now t.fall.now t.rows
 
 -- A line that breaks the rules is refused, and a walk that is lost; else comes what is next.
-abbrev pub judged : Pass → Tallied → Tallied
-judged (Ends at) next = BadLine at
-judged Through next = next
+abbrev pub judged : Pass BadLine → Result Unit TallyRefusal → Result Unit TallyRefusal
+judged (Err e) next = Err (refusal.BadLine e.at)
+judged (Ok u) next = next
 
-abbrev pub walked : Pass → Tallied → Tallied
-walked (Ends at) next = Damaged at
-walked Through next = next
+abbrev pub walked : Pass Damaged → Result Unit TallyRefusal → Result Unit TallyRefusal
+walked (Err e) next = Err (refusal.Damaged e.at)
+walked (Ok u) next = next
 
 -- The tally's answer, with a sums buffer of so many places: every line is judged before a frame is walked.
-abbrev pub tally_of : Five → ℕ → List ℕ → ℕ → Tallied
+abbrev pub tally_of : Five → ℕ → List ℕ → ℕ → Result Unit TallyRefusal
 tally_of b n profile places =
-    cond (ltb most_bytes (length profile)) TooLong
+    cond (ltb most_bytes (length profile)) (Err refusal.TooLong)
     (cond (has_rows b n)
-    (cond (ltb places most_rules) (FewSums places)
-    (judged (check_of profile) (walked (lines_pass (move_by b n) profile) Accepted)))
-    (BadRows n))
+    (cond (ltb places most_rules) (Err (refusal.FewSums places))
+    (judged (check_of profile) (walked (lines_pass (move_by b n) profile) (Ok tt))))
+    (Err (refusal.BadRows n)))
 
 -- The sums buffer after an answer: a refusal leaves it as it was.
-abbrev pub buffer_of : Tallied → List ℕ → List ℕ → List ℕ
-buffer_of Accepted sums old = written sums old
-buffer_of TooLong sums old = old
-buffer_of (BadRows rows) sums old = old
-buffer_of (FewSums places) sums old = old
-buffer_of (BadLine at) sums old = old
-buffer_of (Damaged at) sums old = old
+abbrev pub buffer_of : Result Unit TallyRefusal → List ℕ → List ℕ → List ℕ
+buffer_of (Ok u) sums old = written sums old
+buffer_of (Err e) sums old = old

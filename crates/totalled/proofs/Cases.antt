@@ -21,11 +21,10 @@ use Rattle.book.specs.Limits.{most_rules, most_bytes}
 use Rattle.book.specs.Meant.{rules_of}
 use Rattle.format.specs.Format.{means, meaning_of, fields, follow, ended, field_at, field_of, head_at, rule_field, outcome, judge_rule, judge_symbol, first_of, judge_symbols}
 use Rattle.lent.specs.Lent.{lent}
-use Rattle.promised.specs.Promise.{number_of as number_built, value_of as value_built, Promise}
-use Rattle.promised.specs.declared.Built.{Built}
+use Rattle.promised.specs.Promise.{number_of as number_built, value_of as value_built, Built, Promise}
 use Rattle.promised.proofs.AsBefore.{of_sound}
-use Rattle.lines.specs.declared.Line.TheVariants.{Broken}
-use Rattle.lines.specs.Lines.{split, lines_of, last_from, number_from, count_of, line_of}
+use Rattle.std.specs.Prelude.{None}
+use Rattle.lines.specs.Lines.{split, lines_of, last_mark_of, number_from, count_of, line_of}
 use Rattle.lines.specs.Written.{start_of}
 use Rattle.lines.specs.Profile.{AllSound, FirstBroken, counts}
 use Rattle.lines.proofs.First.{are_sound, are_sound_lem}
@@ -183,14 +182,14 @@ rowless n b profile old e short room =
 
 -- the first line, and the second
 first-broken : FirstBroken (lines_of ab_01) 0
-unfolding split last_from number_from count_of line_of
+unfolding split last_mark_of number_from count_of line_of
 first-broken = record { below = omega arith; broken = refl; before = λ j l. absurd (omega arith) }
 
 second_broken : FirstBroken (lines_of (b_2 ++ 10 ∷ ab_01)) 1
-unfolding split last_from number_from count_of line_of
+unfolding split last_mark_of number_from count_of line_of
 second_broken = record { below = omega arith; broken = refl; before = before }
   where
-    before : (j : ℕ) → j < 1 → line_of (get_or (lines_of (b_2 ++ 10 ∷ ab_01)) j []) ≢ Broken
+    before : (j : ℕ) → j < 1 → line_of (get_or (lines_of (b_2 ++ 10 ∷ ab_01)) j []) ≢ None
     before zero l q = let z : ◌≡◌ {A = ℕ} 0 1 = cc in omega arith
     before (suc j) l q = omega arith
 
@@ -199,7 +198,7 @@ abbrev to : ℕ → ℕ → Filed
 to p k = record { place = p; count = k }
 
 pub leaf_cases : LeafCasesHold
-unfolding is_bytes are_sound below split last_from number_from count_of line_of start_of those fits fits_all family_in sum_over sum_below table
+unfolding is_bytes are_sound below split last_mark_of number_from count_of line_of start_of those fits fits_all family_in sum_over sum_below table
 leaf_cases =
     also (adding six_leaves empty_totals (to 1 3 ∷ to 0 2 ∷ to 2 5 ∷ to 256 7 ∷ to 256 11 ∷ to 256 13 ∷ []) refl refl (record { files = refl; totals = tt; most = refl }) shares_41)
     (also (adding three_leaves empty_totals (to 1 4 ∷ to 256 4 ∷ to 0 1 ∷ []) refl refl (record { files = refl; totals = tt; most = refl }) shares_9)

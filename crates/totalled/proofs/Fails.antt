@@ -6,7 +6,8 @@ use native.Mathlib.Nat.{add_assoc}
 use native.Mathlib.Omega.{arith}
 use lib.ListN.{length}
 use Rattle.answers.specs.Walked.{number_of}
-use Rattle.lines.specs.declared.Pass.TheVariants.{Through, Ends}
+use Rattle.std.specs.Prelude.{Ok}
+use Rattle.leaf.specs.Leaf.{damaged}
 use Rattle.lines.specs.Lines.{lines_of}
 use Rattle.lines.specs.Written.{start_of}
 use Rattle.lines.specs.Profile.{frames_in}
@@ -19,21 +20,21 @@ use Rattle.totalled.proofs.Walked.{leaf_fails, leaf_kept}
 
 module _ (w : AddCall) (x : Begins w) where
   -- a line whose leaf's walk is not refused with 13
-  keeps : (i at : ℕ) → number_of (leaf_walk w i) ≢ 13 → leaf_pass w.tables w.n at (line_at w i) ≡ Through
+  keeps : (i at : ℕ) → number_of (leaf_walk w i) ≢ 13 → leaf_pass w.tables w.n at (line_at w i) ≡ Ok tt
   keeps i at ne =
       pass_by_end w.tables w.n at (line_at w i)
       ∙ leaf_kept w.tables w.n x.lends x.some (leaf_in (line_at w i)) (omega (arith, frame_le w.profile i (length (frames_in (line_at w i)) - 1), x.short)) _ ne
 
-  pub none_fails : NoneFails w → leaves_pass w.tables w.n w.profile ≡ Through
+  pub none_fails : NoneFails w → leaves_pass w.tables w.n w.profile ≡ Ok tt
   unfolding leaves_pass
   none_fails h = pass_through (leaf_pass w.tables w.n) (lines_of w.profile) 0 (λ i l. keeps i _ (h i l))
 
-  pub fails_at : (i c : ℕ) → FirstFails w i c → leaves_pass w.tables w.n w.profile ≡ Ends (start_of 0 (lines_of w.profile) i + leaf_from (line_at w i) + c)
+  pub fails_at : (i c : ℕ) → FirstFails w i c → leaves_pass w.tables w.n w.profile ≡ damaged (start_of 0 (lines_of w.profile) i + leaf_from (line_at w i) + c)
   unfolding leaves_pass
   fails_at i c f =
       let lines = lines_of w.profile in
       let s = start_of 0 lines i in
       let line = line_at w i in
-      let here = leaf_fails w.tables w.n x.lends x.some (leaf_in line) (omega (arith, frame_le w.profile i (length (frames_in (line_at w i)) - 1), x.short)) (λ k. Ends (s + (leaf_from line + k))) c f.fails f.byte in
+      let here = leaf_fails w.tables w.n x.lends x.some (leaf_in line) (omega (arith, frame_le w.profile i (length (frames_in (line_at w i)) - 1), x.short)) (λ k. damaged (s + (leaf_from line + k))) c f.fails f.byte in
       pass_first (leaf_pass w.tables w.n) lines 0 i f.line (pass_by_end w.tables w.n s line ∙ here) (λ k m. keeps k _ (f.before k m))
       ∙ rw add_assoc

@@ -29,6 +29,7 @@ use Rattle.lines.specs.Lines.{lines_of}
 use Rattle.lines.specs.Profile.{AllSound, counts}
 use Rattle.lines.proofs.Bytes.{frame_bytes}
 use Rattle.shares.specs.Shares.{limit}
+use Rattle.std.specs.Prelude.{Option}
 use Rattle.one_byte.specs.declared.Moved.{Moved}
 use Rattle.one_byte.specs.Move.{move_of}
 use Rattle.listed.proofs.Demands.{moves, matches}
@@ -81,7 +82,7 @@ module _ (r : Rules) (few : count r ≤ most_rules) (leaf : List ℕ) where
 -- ---- over the tables of rules
 
 module _ {r : Rules} {b : Five} {n : ℕ} (tables : Tables r b n) (lends : n ≤ lent b) (few : count r ≤ most_rules) where
-  abbrev moving : ℕ → ℕ → Moved
+  abbrev moving : ℕ → ℕ → Option Moved
   moving = move_of b.goto b.fall n
 
   -- the walk ends in the row of the text read

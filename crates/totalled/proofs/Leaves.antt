@@ -8,11 +8,11 @@ use lib.ListN.{length, take}
 use Rattle.meaning.specs.Tables.{Five}
 use Rattle.one_byte.specs.Move.{move_of}
 use Rattle.lines.specs.declared.Line.{Line}
-use Rattle.lines.specs.declared.Line.TheVariants.{Sound, Broken}
-use Rattle.lines.specs.declared.Pass.TheVariants.{Through, Ends}
-use Rattle.lines.specs.Lines.{line_of}
+use Rattle.std.specs.Prelude.{Option, Some, None, Ok}
+use Rattle.answers.specs.declared.Damaged.{Damaged}
+use Rattle.lines.specs.Lines.{Pass, line_of}
 use Rattle.lines.specs.Profile.{count_in}
-use Rattle.leaf.specs.Leaf.{end_from, end_of, on_end, family_at, line_leaf, on_leaf}
+use Rattle.leaf.specs.Leaf.{damaged, end_from, end_of, on_end, family_at, line_leaf, on_leaf}
 use Rattle.leaves.specs.Totals.{leaf_pass, line_adds}
 use Rattle.leaf.proofs.Stacks.{stack_by_end, kept_end}
 use Rattle.totalled.specs.Adding.{leaf_in, leaf_from, family_over}
@@ -25,15 +25,15 @@ module _ (b : Five) (n : ℕ) where
   unfolding line_leaf end_of end_from
   line_by_end {A} f g flat line = go (line_of line) refl
     where
-      go : (l : Line) → line_of line ≡ l → on_leaf (line_leaf b n line) f g
+      go : (l : Option Line) → line_of line ≡ l → on_leaf (line_leaf b n line) f g
           ≡ on_end (end_of (move_of b.goto b.fall n) (leaf_in line)) (λ row. f (family_at b.held b.live b.out row (length (leaf_in line))) (count_in line)) (λ at. g (leaf_from line + at))
-      go (Sound stack count) e = rw e (stack_by_end b n f g (take stack line) count)
-      go Broken e = rw e (flat _ _)
+      go (Some l) e = rw e (stack_by_end b n f g (take l.stack line) l.count)
+      go None e = rw e (flat _ _)
 
   pub pass_by_end : (at : ℕ) (line : List ℕ)
-      → leaf_pass b n at line ≡ on_end (end_of (move_of b.goto b.fall n) (leaf_in line)) (λ row. Through) (λ i. Ends (at + (leaf_from line + i)))
+      → leaf_pass b n at line ≡ on_end (end_of (move_of b.goto b.fall n) (leaf_in line)) (λ row. Ok tt) (λ i. damaged (at + (leaf_from line + i)))
   unfolding leaf_pass
-  pass_by_end at line = line_by_end (λ place count. Through) (λ i. Ends (at + i)) (λ p q. refl) line
+  pass_by_end at line = line_by_end {A = Pass Damaged} (λ place count. Ok tt) (λ i. damaged (at + i)) (λ p q. refl) line
 
   nothing : (s t : Bool) → cond {A = ℕ} s 0 0 ≡ cond t 0 0
   nothing true true = refl
@@ -42,7 +42,7 @@ module _ (b : Five) (n : ℕ) where
   nothing false false = refl
 
   -- what a line adds, where its leaf's walk gets through
-  pub line_adds_is : (p at : ℕ) (line : List ℕ) → leaf_pass b n at line ≡ Through → line_adds b n p line ≡ cond (eqb (family_over b n (leaf_in line)) p) (count_in line) 0
+  pub line_adds_is : (p at : ℕ) (line : List ℕ) → leaf_pass b n at line ≡ Ok tt → line_adds b n p line ≡ cond (eqb (family_over b n (leaf_in line)) p) (count_in line) 0
   unfolding line_adds
   line_adds_is p at line e =
       line_by_end (λ place count. cond (eqb place p) count 0) (λ i. 0) (λ q r. nothing (eqb q p) (eqb r p)) line

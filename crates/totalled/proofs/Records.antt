@@ -17,7 +17,6 @@ use Rattle.book.proofs.Tables.{get_or_table}
 use Rattle.shares.proofs.Tables.{total_table}
 use Rattle.leaf_totals.specs.declared.LeafTotals.{LeafTotals}
 use Rattle.leaf.specs.Leaf.{unnamed}
-use Rattle.leaf_totals.proofs.Places.{total_family}
 use Rattle.leaf_totals.specs.Record.{total_at, whole_in, empty_totals}
 use Rattle.leaves.specs.Totals.{with_parts}
 use Rattle.totalled.specs.Adding.{WholeIs}
@@ -27,7 +26,7 @@ use Rattle.totalled.specs.Adding.{WholeIs}
 pub whole_is : WholeIs
 whole_is t =
     total_table (total_at t) ∙ sum_next (total_at t) most_rules
-    ∙ ap₂ ◌+◌ (sum_same (total_at t) (λ k. get_or t.totals k 0) most_rules (total_family t)) refl
+    ∙ ap₂ ◌+◌ (sum_same (total_at t) (λ k. get_or t.totals k 0) most_rules (λ k h. rw (lt-ltb k most_rules h))) refl
 
 -- ---- parts joined
 

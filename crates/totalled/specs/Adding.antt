@@ -1,11 +1,12 @@
 -- What adding a profile to a record of leaf totals comes to, over any tables. Assumes nothing.
-use Rattle.std.specs.Prelude.{Bool, cond, List, [], ◌∷◌, ◌⊎◌, ◌≢◌, ◌≡◌, ℕ, ◌+◌, ◌-◌, ◌≤◌, ◌<◌, eqb, length, get_or}
+use Rattle.std.specs.Prelude.{Result, Bool, cond, List, [], ◌∷◌, ◌⊎◌, ◌≢◌, ◌≡◌, ℕ, ◌+◌, ◌-◌, ◌≤◌, ◌<◌, eqb, length, get_or}
 use Rattle.sets.specs.Sums.{sum_over}
 use Rattle.meaning.specs.Tables.{Five}
 use Rattle.book.specs.Limits.{most_rules, most_bytes}
 use Rattle.lent.specs.Lent.{lent}
 use Rattle.one_byte.specs.Move.{move_of}
 use Rattle.answers.specs.declared.Walked.{Walked}
+use Rattle.answers.specs.declared.WalkRefusal.{WalkRefusal}
 use Rattle.answers.specs.Walked.{number_of as number_of_walk, value_of as value_of_walk}
 use Rattle.walk.specs.Walk.{walk_of}
 use Rattle.lines.specs.Lines.{lines_of}
@@ -55,7 +56,7 @@ abbrev pub line_at : AddCall → ℕ → List ℕ
 line_at w i = get_or (lines_of w.profile) i []
 
 -- the walk over its leaf as a text of its own; 13 comes before 14, so that it has no room does not matter
-abbrev pub leaf_walk : AddCall → ℕ → Walked
+abbrev pub leaf_walk : AddCall → ℕ → Result Walked WalkRefusal
 leaf_walk w i = walk_of w.tables w.n (leaf_in (line_at w i)) 0
 
 -- line i is the first whose leaf's walk is refused with 13, at the leaf's byte x

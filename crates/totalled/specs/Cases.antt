@@ -2,8 +2,7 @@
 use Rattle.std.specs.Prelude.{List, [], ◌∷◌, ◌++◌, ◌≢◌, ◌≡◌, ℕ, ◌≤◌, ◌<◌, length, get_or, replicate}
 use Rattle.meaning.specs.Tables.{Five}
 use Rattle.lent.specs.Lent.{five, lent}
-use Rattle.promised.specs.Promise.{number_of as number_built, value_of as value_built, Promise}
-use Rattle.promised.specs.declared.Built.{Built}
+use Rattle.promised.specs.Promise.{number_of as number_built, value_of as value_built, Built, Promise}
 use Rattle.shares.specs.Shares.{number_of as number_shared, value_of as value_shared}
 use Rattle.leaf_totals.specs.declared.LeafTotals.{LeafTotals}
 use Rattle.leaf_totals.specs.Record.{empty_totals}

@@ -9,8 +9,7 @@ use Rattle.book.specs.Content.{Content}
 use Rattle.book.specs.Meant.{rules_of}
 use Rattle.format.specs.Format.{means, meaning_of}
 use Rattle.lent.specs.Lent.{lent}
-use Rattle.promised.specs.Promise.{number_of as number_built, value_of as value_built, Promise}
-use Rattle.promised.specs.declared.Built.{Built}
+use Rattle.promised.specs.Promise.{number_of as number_built, value_of as value_built, Built, Promise}
 use Rattle.lines.specs.Lines.{lines_of}
 use Rattle.lines.specs.Profile.{AllSound, counts}
 use Rattle.shares.specs.Shares.{limit}

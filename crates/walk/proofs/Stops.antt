@@ -1,12 +1,12 @@
 -- Where a run stops: at the byte where the walk is refused with 13, and where it is not, nowhere. Assumes nothing.
-use mathlib.Core.Bool.{Bool, true, false, cond}
+use Rattle.std.specs.Prelude.{Result, Ok, Err}
 use mathlib.Core.List.{List}
 use mathlib.Core.Logic.{◌≢◌}
 use mathlib.Core.Path.{◌≡◌, refl, ap, ◌∙◌}
 use Prim.Native.Nat.{ℕ, ◌/◌, ◌≤◌, ◌<◌}
 use native.Mathlib.Omega.{arith}
-use lib.Dec.{ltb}
-use lib.ListN.{length, get_or}
+use Rattle.std.proofs.lemmas.Grind.{common_steps}
+use lib.ListN.{length}
 use Rattle.meaning.specs.Tables.{Five}
 use Rattle.book.specs.Limits.{most_bytes}
 use Rattle.lent.specs.Lent.{lent}
@@ -14,49 +14,46 @@ use Rattle.lent.proofs.HasRows.{rows-lent}
 use Rattle.one_byte.specs.Move.{Lent, move_from, move_of}
 use Rattle.one_byte.proofs.Laws.{move-lent}
 use Rattle.answers.specs.declared.Walked.{Walked}
-use Rattle.answers.specs.declared.Walked.TheVariants.{Accepted, TooLong, BadRows, Damaged, NoRoom}
+use Rattle.answers.specs.declared.Damaged.{Damaged}
+use Rattle.answers.specs.declared.WalkRefusal.{WalkRefusal}
+use Rattle.answers.specs.declared.WalkRefusal.TheVariants.{TooLong, BadRows, NoRoom, Damaged as WalkDamaged}
 use Rattle.answers.specs.Walked.{number_of, value_of}
-use Rattle.walk.specs.declared.Counted.{Counted}
-use Rattle.walk.specs.declared.Counted.TheVariants.{Read, Stopped}
+use Rattle.walk.specs.declared.Run.{Run}
 use Rattle.walk.specs.Walk.{run_of, answer_of, walk_of}
 use Rattle.walk.proofs.Laws.{walked}
 
 -- f of the row where a run ends, or g of the byte where it stops
-abbrev pub on_run : {A : Type 0} → Counted → (ℕ → A) → (ℕ → A) → A
-on_run (Read made falls row) f g = f row
-on_run (Stopped at) f g = g at
+abbrev pub on_run : {A : Type 0} → Result Run Damaged → (ℕ → A) → (ℕ → A) → A
+on_run (Ok r) f g = f r.row
+on_run (Err d) f g = g d.at
 
 module _ {A : Type 0} (z : A) (g : ℕ → A) where
   -- g of the byte where a walk is refused with 13, or else z
-  abbrev on_walk : Walked → A
-  on_walk (Damaged i) = g i
-  on_walk (Accepted made falls held) = z
-  on_walk (NoRoom made) = z
-  on_walk TooLong = z
-  on_walk (BadRows m) = z
+  abbrev on_walk : Result Walked WalkRefusal → A
+  on_walk (Ok w) = z
+  on_walk (Err (WalkDamaged i)) = g i
+  on_walk (Err (NoRoom made)) = z
+  on_walk (Err TooLong) = z
+  on_walk (Err (BadRows m)) = z
 
   -- the walk's answer, with no room
-  on_answer : (held : List ℕ) (q : Counted) → on_run q (λ row. z) g ≡ on_walk (answer_of held (0 / 2) q)
-  on_answer held (Read made falls row) = go (ltb (0 / 2) made)
-    where
-      go : (t : Bool) → z ≡ on_walk (cond t (NoRoom made) (Accepted made falls (get_or held row 0)))
-      go true = refl
-      go false = refl
-  on_answer held (Stopped i) = refl
+  on_answer : (held : List ℕ) (q : Result Run Damaged) → on_run q (λ row. z) g ≡ on_walk (answer_of held (0 / 2) q)
+  on_answer held (Ok r) = grind (arith, common_steps)
+  on_answer held (Err d) = refl
 
-  lost_is : (a : Walked) (x : ℕ) → number_of a ≡ 13 → value_of a ≡ x → on_walk a ≡ g x
-  lost_is (Damaged i) x e v = rw v
-  lost_is (Accepted made falls held) x e v = absurd (omega arith)
-  lost_is (NoRoom made) x e v = absurd (omega arith)
-  lost_is TooLong x e v = absurd (omega arith)
-  lost_is (BadRows m) x e v = absurd (omega arith)
+  lost_is : (a : Result Walked WalkRefusal) (x : ℕ) → number_of a ≡ 13 → value_of a ≡ x → on_walk a ≡ g x
+  lost_is (Ok w) x e v = absurd (omega arith)
+  lost_is (Err (WalkDamaged i)) x e v = rw v
+  lost_is (Err (NoRoom made)) x e v = absurd (omega arith)
+  lost_is (Err TooLong) x e v = absurd (omega arith)
+  lost_is (Err (BadRows m)) x e v = absurd (omega arith)
 
-  kept_is : (a : Walked) → number_of a ≢ 13 → on_walk a ≡ z
-  kept_is (Damaged i) ne = absurd (ne refl)
-  kept_is (Accepted made falls held) ne = refl
-  kept_is (NoRoom made) ne = refl
-  kept_is TooLong ne = refl
-  kept_is (BadRows m) ne = refl
+  kept_is : (a : Result Walked WalkRefusal) → number_of a ≢ 13 → on_walk a ≡ z
+  kept_is (Ok w) ne = refl
+  kept_is (Err (WalkDamaged i)) ne = absurd (ne refl)
+  kept_is (Err (NoRoom made)) ne = refl
+  kept_is (Err TooLong) ne = refl
+  kept_is (Err (BadRows m)) ne = refl
 
 module _ (b : Five) (n : ℕ) (lends : n ≤ lent b) where
   -- a move from a row that is lent

@@ -1,170 +1,137 @@
 // Books, texts and folded profiles out of keys.
-use crate::leaf::{above, at8, has, plus, put8};
-use crate::report::{key_of, letter, pick};
+use drawn::{Key, Page, at};
 
 // ---- books
 
-// The picture of some of the five letters, as a set; and where it ends.
-fn picture(bytes: &mut [u8; 2560], from: usize, letters: u64) -> usize {
-    let mut end = plus(from, 3);
-    for l in 0..5usize {
-        if has(letters, l) {
-            put8(bytes, end, at8(b"1;abc", l));
-            end = plus(end, 1);
-        }
-    }
-    put8(bytes, from, 0x50);
-    put8(bytes, plus(from, 2), above(end, plus(from, 3)));
-    end
-}
-
-// A byte, or one of the first pictures with 256 more.
-fn symbol(key: u64, j: usize, pictures: usize) -> usize {
-    if 0 < pictures && pick(key, plus(64, j), 3) == 0 {
-        plus(256, pick(key, j, pictures))
+// A book of up to three pictures, which may share letters, and then so many rules. Up to 64, 128 or 192 rules may be much alike.
+pub fn book(key: Key, rules: u16) -> Page {
+    let pictures = key.pick(0, 4) as u8;
+    let (alike, longest) = if 64 < rules {
+        (64 * key.pick(1, 4), 1 + key.pick(2, 5) / 2)
     } else {
-        letter(key, j)
-    }
-}
-
-// A rule of so many symbols, and where it ends. Two rules of one key are equal, or one opens the other.
-fn rule(bytes: &mut [u8; 2560], from: usize, key: u64, pictures: usize, size: usize) -> usize {
-    put8(bytes, from, 0x52);
-    put8(bytes, plus(from, 2), plus(size, size));
-    let mut end = plus(from, 3);
-    for j in 0..size {
-        let next = symbol(key, j, pictures);
-        put8(bytes, end, next / 256);
-        put8(bytes, plus(end, 1), next);
-        end = plus(end, 2);
-    }
-    end
-}
-
-// A book of up to three pictures, which may share letters, and then so many rules; and its length. Up to 64, 128 or 192 rules may be much alike.
-pub fn book(bytes: &mut [u8; 2560], key: u64, rules: usize) -> usize {
-    let pictures = pick(key, 0, 4);
-    let alike = if 64 < rules {
-        64 * (pick(key, 1, 4) % 4)
-    } else {
-        0
+        (0, 5)
     };
-    let longest = if 64 < rules {
-        plus(1, pick(key, 2, 5) / 2)
-    } else {
-        5
-    };
-    let mut size = 0;
-    for i in 0..plus(pictures, rules) {
-        if i < pictures {
-            size = picture(bytes, size, plus(1, pick(key, plus(3, i), 31)) as u64);
-        } else {
-            let own = own_key(key, above(i, pictures), alike);
-            let length = plus(1, pick(key, plus(1000, i), longest));
-            size = rule(bytes, size, own, pictures, length);
-        }
+    let mut page = Page::empty();
+    for p in 0..usize::from(pictures) {
+        page.picture(b"1;abc", 1 + key.pick(3 + p, 31) as u64);
     }
-    size
-}
-
-// One time in four the key of the rules that are alike.
-fn own_key(key: u64, k: usize, alike: usize) -> u64 {
-    if k < alike || pick(key, plus(2000, k), 4) == 0 {
-        key
-    } else {
-        key_of(key, plus(3000, k))
+    for k in 0..usize::from(rules) {
+        let own = key.of_rule(k, alike);
+        let more = key.pick(1000 + usize::from(pictures) + k, longest);
+        page.rule(1 + more as u16, |j| own.symbol(j, pictures));
     }
+    page
 }
 
 // ---- texts
 
-// A text of up to 24 letters, and its length.
-pub fn text(bytes: &mut [u8; 2560], key: u64) -> usize {
-    let size = pick(key, 24, 25);
-    for i in 0..size {
-        put8(bytes, i, letter(key, i));
+// A text of up to 24 letters.
+pub fn text(key: Key) -> Page {
+    let mut page = Page::empty();
+    for i in 0..key.pick(24, 25) {
+        page.push(key.letter(i));
     }
-    size
+    page
 }
 
 // ---- profiles
 
-// Up to four lines, of which one may be spoiled and each may come twice; half of the profiles end without LF. Answers the size.
-pub fn profile(bytes: &mut [u8; 2560], key: u64) -> usize {
-    let spoiled = pick(key, 0, 10);
-    let mut size = 0;
-    for i in 0..pick(key, 1, 5) {
-        let from = size;
-        let own = key_of(key, plus(2, i));
-        size = line(bytes, from, own, i == spoiled);
-        if pick(own, 0, 4) == 0 {
-            size = again(bytes, from, size);
-        }
-    }
-    above(size, pick(key, 7, 2))
+// A line is sound or spoiled.
+#[derive(Clone, Copy)]
+enum Line {
+    Sound,
+    Empty,
+    NoStack,
+    NoSpace,
+    OddCount,
 }
 
-// What lies there, once more behind it.
-fn again(bytes: &mut [u8; 2560], from: usize, to: usize) -> usize {
-    let mut end = to;
-    for i in from..to {
-        let byte = at8(bytes, i);
-        put8(bytes, end, byte);
-        end = plus(end, 1);
+impl Line {
+    fn spoiled(key: Key) -> Line {
+        match key.pick(1, 5) {
+            0 => Line::Empty,
+            1 => Line::NoStack,
+            2 => Line::NoSpace,
+            _ => Line::OddCount,
+        }
     }
-    end
 }
 
-// A spoiled line is empty, or has no stack, no space, or an odd count.
-fn line(bytes: &mut [u8; 2560], from: usize, key: u64, is_spoiled: bool) -> usize {
-    let kind = if is_spoiled { pick(key, 1, 5) } else { 9 };
-    let mut size = from;
-    if 1 < kind {
-        size = stack(bytes, size, key);
-    }
-    if kind != 0 {
-        if kind != 2 {
-            put8(bytes, size, 0x20);
-            size = plus(size, 1);
-        }
-        let which = if kind == 9 {
-            pick(key, 3, 6)
+// Up to four lines, of which one may be spoiled and each may come twice; half of the profiles end without LF.
+pub fn profile(key: Key) -> Page {
+    let spoiled = key.pick(0, 10);
+    let mut page = Page::empty();
+    for i in 0..key.pick(1, 5) {
+        let from = page.size();
+        let own = key.at(2 + i);
+        let kind = if i == spoiled {
+            Line::spoiled(own)
         } else {
-            plus(6, pick(key, 4, 10))
+            Line::Sound
         };
-        size = count(bytes, size, which);
+        write_line(&mut page, own, kind);
+        if own.is_first(0, 4) {
+            page.repeat(from);
+        }
     }
-    put8(bytes, size, 0x0a);
-    plus(size, 1)
+    page.truncate(page.size().saturating_sub(key.pick(7, 2)));
+    page
+}
+
+fn write_line(page: &mut Page, key: Key, kind: Line) {
+    let odd = count(6 + key.pick(4, 10));
+    match kind {
+        Line::Empty => {}
+        Line::NoStack => {
+            page.push(b' ');
+            page.write(odd);
+        }
+        Line::NoSpace => {
+            stack(page, key);
+            page.write(odd);
+        }
+        Line::OddCount => {
+            stack(page, key);
+            page.push(b' ');
+            page.write(odd);
+        }
+        Line::Sound => {
+            stack(page, key);
+            page.push(b' ');
+            page.write(count(key.pick(3, 6)));
+        }
+    }
+    page.push(b'\n');
 }
 
 // Some letters, parted into frames; a frame may be empty and may hold spaces.
-fn stack(bytes: &mut [u8; 2560], from: usize, key: u64) -> usize {
-    let mut end = from;
-    for i in 0..plus(1, pick(key, 2, 14)) {
-        let byte = if pick(key, plus(20, i), 4) == 0 {
-            at8(b";;; ", pick(key, plus(40, i), 4))
+fn stack(page: &mut Page, key: Key) {
+    for i in 0..1 + key.pick(2, 14) {
+        page.push(if key.is_first(20 + i, 4) {
+            at(b";;; ", key.pick(40 + i, 4))
         } else {
-            letter(key, plus(60, i))
-        };
-        put8(bytes, end, byte);
-        end = plus(end, 1);
+            key.letter(60 + i)
+        });
     }
-    end
 }
 
-// One of the sound counts, which are the first six, or of the others; each ends before its first slash.
-fn count(bytes: &mut [u8; 2560], from: usize, which: usize) -> usize {
-    let mut end = from;
-    for i in 12 * (which % 16)..12 * (which % 16) + 11 {
-        let byte = at8(
-            b"0///////////3///////////10//////////65537///////3///////////4294967295//////////////01//////////4294967296//9999999999//12345678901/1\r//////////1 //////////00//////////-1//////////7///////////",
-            i,
-        );
-        if byte != 0x2f {
-            put8(bytes, end, byte);
-            end = plus(end, 1);
-        }
+// One of the sound counts, which are the first six, or of the others.
+fn count(which: usize) -> &'static [u8] {
+    match which {
+        0 => b"0",
+        1 | 4 => b"3",
+        2 => b"10",
+        3 => b"65537",
+        5 => b"4294967295",
+        6 => b"",
+        7 => b"01",
+        8 => b"4294967296",
+        9 => b"9999999999",
+        10 => b"12345678901",
+        11 => b"1\r",
+        12 => b"1 ",
+        13 => b"00",
+        14 => b"-1",
+        _ => b"7",
     }
-    end
 }

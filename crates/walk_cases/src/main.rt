@@ -6,142 +6,80 @@
 mod compare;
 mod draw;
 mod folded;
-mod leaf;
 mod long;
 mod report;
 mod search;
 mod tables;
 
-use leaf::{first, plus};
-use report::{count, key_of, pick, say, say_numbers};
-use tables::Tables;
+use book::Book;
+use drawn::{Key, Tables, many_rules};
+use lent::Machine;
+use report::Run;
+use search::Search;
 
 const BOOKS: usize = 2048;
 
 fn main() {
-    let mut run = [0u64; 256];
+    let mut run = Run::default();
     for number in 0..BOOKS {
         one(&mut run, number);
     }
     long::texts(&mut run);
-    tell(&run);
+    run.tell();
 }
 
 // The book of a number.
-fn one(run: &mut [u64; 256], number: usize) {
-    leaf::put64(run, report::NUMBER, number as u64);
-    let key = pick(number as u64, 0, 1152921504606846976) as u64;
+fn one(run: &mut Run, number: usize) {
+    run.differences.book = number;
+    let key = Key::of_book(number);
     let rules = if number % 24 == 0 {
-        many(number / 24)
+        many_rules(number / 24, 128)
     } else {
-        plus(1, pick(key, 4, 6))
+        1 + key.pick(4, 6) as u16
     };
-    let mut bytes = [0u8; 2560];
-    let size = draw::book(&mut bytes, key, rules);
-    let book = first(&bytes, size);
-    let mut goto = [0u16; 16384];
-    let t = tables::built(book, &mut goto);
-    if 0 < t.n {
-        count(run, report::BUILT, 1);
+    let page = draw::book(key, rules);
+    if let Some(tables) = Tables::built(page.text()) {
+        run.built.one();
         if 64 < rules {
-            count(run, report::LARGE, 1);
+            run.large.one();
         }
-        searched(run, t, goto, &tables::rules_of(book), key);
-    }
-}
-
-// How many rules a large book has: as many as the four words of a set hold and one less, one more than one or three words hold, and others.
-fn many(turn: usize) -> usize {
-    match turn % 6 {
-        0 => 256,
-        1 => 65,
-        2 => 193,
-        3 => 190,
-        4 => 255,
-        _ => 128,
+        searched(run, &tables, &reader::read(page.text()).book, key);
     }
 }
 
 // Four texts and profiles over the tables as built, and eight over damaged ones.
-fn searched(run: &mut [u64; 256], t: Tables, goto: [u16; 16384], rules: &[u64; 16898], key: u64) {
-    let mut numbers = [0u64; 16898];
-    for turn in 0..12usize {
-        let own = key_of(key, plus(100, turn));
+fn searched(run: &mut Run, tables: &Tables, book: &Book, key: Key) {
+    for turn in 0..12 {
+        let own = key.at(100 + turn);
         if turn < 4 {
-            both(run, t, &goto, rules, own, report::WALKED, report::TALLIED);
+            let (walked, tallied) = both(run, &tables.machine(), book, own);
+            run.walked.one(walked);
+            run.tallied.one(tallied);
         } else {
-            let mut other = goto;
-            let now = tables::damaged(t, &mut other, own);
-            tables::numbers_of(now, &other, &mut numbers);
-            both(
-                run,
-                now,
-                &other,
-                &numbers,
-                own,
-                report::DAMAGED,
-                report::SPOILED,
-            );
+            let mut other = *tables;
+            let machine = tables::damaged(&mut other, own);
+            let (walked, tallied) = both(run, &machine, &machine, own);
+            run.damaged.one(walked);
+            run.spoiled.one(tallied);
         }
     }
 }
 
-// A text walked and a profile tallied.
-fn both(
-    run: &mut [u64; 256],
-    t: Tables,
-    goto: &[u16; 16384],
-    how: &[u64; 16898],
-    key: u64,
-    walked: usize,
-    tallied: usize,
-) {
-    let mut text = [0u8; 2560];
-    let size = draw::text(&mut text, key_of(key, 20));
-    compare::walk_text(run, t, goto, how, first(&text, size), key, walked);
-    let mut profile = [0u8; 2560];
-    let end = draw::profile(&mut profile, key_of(key, 21));
+// A text walked and a profile tallied. Answers the numbers of the two answers that are meant.
+fn both<S: Search>(run: &mut Run, tables: &Machine<'_>, how: &S, key: Key) -> (usize, usize) {
+    let text = draw::text(key.at(20));
+    let walked = compare::walk_text(run, tables, how, text.text(), key);
+    let profile = draw::profile(key.at(21));
     let places = places_for(key);
-    compare::tally_text(run, t, goto, how, first(&profile, end), places, tallied);
+    let tallied = compare::tally_text(run, tables, how, profile.text(), places);
+    (walked, tallied)
 }
 
 // Mostly 256 or more, and often just about so many.
-fn places_for(key: u64) -> usize {
-    match pick(key, 22, 16) {
-        0 => pick(key, 23, 256),
-        1 => plus(250, pick(key, 23, 8)),
-        _ => plus(256, pick(key, 23, 7)),
+fn places_for(key: Key) -> usize {
+    match key.pick(22, 16) {
+        0 => key.pick(23, 256),
+        1 => 250 + key.pick(23, 8),
+        _ => 256 + key.pick(23, 7),
     }
-}
-
-fn tell(run: &[u64; 256]) {
-    say(run, b"books built", report::BUILT);
-    say(run, b"of these of more than 64 rules", report::LARGE);
-    say_numbers(run, b"texts walked, by number", report::WALKED);
-    say_numbers(run, b"long texts walked, by number", report::LONG);
-    say_numbers(
-        run,
-        b"texts walked over damaged tables, by number",
-        report::DAMAGED,
-    );
-    say_numbers(run, b"profiles tallied, by number", report::TALLIED);
-    say_numbers(
-        run,
-        b"long profiles tallied, by number",
-        report::LONG_TALLIED,
-    );
-    say_numbers(run, b"counts at the limit, by number", report::COUNTS);
-    say_numbers(
-        run,
-        b"profiles tallied over damaged tables, by number",
-        report::SPOILED,
-    );
-    say(run, b"reports", report::REPORTS);
-    say(run, b"fallbacks", report::FALLS);
-    say(
-        run,
-        b"reports that a line had counted before",
-        report::AGAIN,
-    );
-    say(run, b"differences", report::DIFFERENCES);
 }

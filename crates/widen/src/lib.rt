@@ -2,35 +2,28 @@
 #![tactic(auto)]
 
 ghost use Rattle.std.specs.Prelude.{◌≡◌, length};
-ghost use Rattle.widen.specs.Widen.{widened_at, widened, widen_of, buffer_of, number_of, value_of};
+ghost use Rattle.widen.specs.Widen.{widened_at, widened, room_of, widen_of, buffer_of, number, value};
 
+use numbered::Numbered;
 use words::WORDS;
 
-// The answer: done, or the old length that a buffer has no room for.
+// The one refusal: a buffer has no room for so many old numbers.
 #[derive(Clone, Copy)]
-pub enum Widened {
-    Done,
-    Short(usize),
+pub struct Short {
+    pub needed: usize,
 }
 
-impl Widened {
-    // The paper's number of an answer, and its value.
-    pub fn number(self) -> usize
-        ensures { result ≡ number_of self }
-    {
-        match self {
-            Widened::Done => 0,
-            Widened::Short(_) => 33,
-        }
+impl Numbered for Short {
+    ghost number_is = { number };
+
+    ghost value_is = { value };
+
+    fn number(&self) -> usize {
+        33
     }
 
-    pub fn value(self) -> usize
-        ensures { result ≡ value_of self }
-    {
-        match self {
-            Widened::Done => 0,
-            Widened::Short(n) => n,
-        }
+    fn value(&self) -> u64 {
+        self.needed as u64
     }
 }
 
@@ -39,36 +32,46 @@ fn at(old: &[u64], i: usize) -> u64
     ensures { result ≡ widened_at old.now i }
 {
     if i % WORDS == 0 {
-        return words::word(old, i / WORDS);
+        words::word(old, i / WORDS)
+    } else {
+        0
     }
-    0
 }
 
 // Every place of the new buffer, in order.
 fn spread(old: &[u64], new: &mut [u64])
     ensures { new.new ≡ widened (length new.old) old.now }
 {
-    let mut i = 0;
-    while i < new.len() {
+    for i in 0..new.len() {
         new[i] = at(old, i);
-        i += 1;
     }
 }
 
+// Whether the new buffer has room for the old numbers' rows.
+fn room(old: &[u64], new: &[u64]) -> Result<(), Short>
+    ensures { result ≡ room_of (length old.now) (length new.now) }
+{
+    if new.len() / WORDS < old.len() {
+        return Err(Short { needed: old.len() });
+    }
+    Ok(())
+}
+
 // Puts each old number first of its row's words, zeros behind it, and 0 in every later place. Where a buffer has no room for that, nothing is changed.
-pub fn widen(old_live: &[u64], old_out: &[u64], live: &mut [u64], out: &mut [u64]) -> Widened
+pub fn widen(
+    old_live: &[u64],
+    old_out: &[u64],
+    live: &mut [u64],
+    out: &mut [u64],
+) -> Result<(), Short>
     ensures answer { result ≡ widen_of (length old_live.now) (length old_out.now)
         (length live.old) (length out.old) }
     ensures live_left { live.new ≡ buffer_of result old_live.now live.old }
     ensures out_left { out.new ≡ buffer_of result old_out.now out.old }
 {
-    if live.len() / WORDS < old_live.len() {
-        return Widened::Short(old_live.len());
-    }
-    if out.len() / WORDS < old_out.len() {
-        return Widened::Short(old_out.len());
-    }
+    room(old_live, live)?;
+    room(old_out, out)?;
     spread(old_live, live);
     spread(old_out, out);
-    Widened::Done
+    Ok(())
 }

@@ -1,6 +1,6 @@
 -- The tables as they were while a row of live and of out was one word, and what becomes of them when they are widened. Such tables exist for 64 rules or
 -- fewer. Assumes nothing.
-use Rattle.std.specs.Prelude.{◌≡◌, List, ℕ, ◌*◌, ◌/◌, ◌≤◌, ◌<◌, length, get_or}
+use Rattle.std.specs.Prelude.{Ok, ◌≡◌, List, ℕ, ◌*◌, ◌/◌, ◌≤◌, ◌<◌, length, get_or}
 use Rattle.rows.specs.Rows.{IsRows}
 use Rattle.sets.specs.Sets.{members}
 use Rattle.sets.specs.Table.{row_words, rules_at}
@@ -9,7 +9,6 @@ use Rattle.meaning.specs.Standing.{Same}
 use Rattle.meaning.specs.Tables.{Columns, Numbers, Gotos, Five, goto_at, ZeroFrom, Tables}
 use Rattle.book.specs.Limits.{most_rules}
 use Rattle.widen.specs.Widen.{widened, widen_of}
-use Rattle.widen.specs.declared.Widened.TheVariants.{Done}
 
 -- ---- the old layout
 
@@ -46,7 +45,7 @@ wide b live out = record { goto = b.goto; fall = b.fall; held = b.held; live = w
 
 -- these have room, so that it is done
 abbrev pub Roomy : Five → ℕ → ℕ → Type 0
-Roomy b live out = widen_of (length b.live) (length b.out) live out ≡ Done
+Roomy b live out = widen_of (length b.live) (length b.out) live out ≡ Ok tt
 
 -- a buffer of n places, widened: its rows' sets are the old numbers, and 0 comes after them
 pub record WideSets (n : ℕ) (old : List ℕ) : Type 0 where

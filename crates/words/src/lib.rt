@@ -24,41 +24,21 @@ pub fn none() -> Set
 pub fn word(words: &[u64], i: usize) -> u64
     ensures { result ≡ get_or words.now i 0 }
 {
-    if i < words.len() {
-        return words[i];
-    }
-    0
+    words.get(i).copied().unwrap_or(0)
 }
 
 // Whether nothing is in the set.
 pub fn is_empty(words: &[u64]) -> bool
     ensures { result ≡ eqb (set_of words.now) 0 }
 {
-    let mut i = 0;
-    while i < words.len() {
-        if words[i] != 0 {
-            return false;
-        }
-        i += 1;
-    }
-    true
+    words.iter().all(|w| *w == 0)
 }
 
 // Whether the two are one set, in as many words.
 pub fn same(a: &[u64], b: &[u64]) -> bool
     ensures { result ≡ (eqb (length a.now) (length b.now) && eqb (set_of a.now) (set_of b.now)) }
 {
-    if a.len() != b.len() {
-        return false;
-    }
-    let mut i = 0;
-    while i < a.len() {
-        if a[i] != b[i] {
-            return false;
-        }
-        i += 1;
-    }
-    true
+    *a == *b
 }
 
 // What is in the second set joins the first; what is past the words of the first is left out.
@@ -66,9 +46,7 @@ pub fn unite(words: &mut [u64], more: &[u64])
     ensures each { words.new ≡ united words.old more.now }
     ensures as_sets { length more.now ≤ length words.old → set_of words.new ≡ bit_or (set_of words.old) (set_of more.now) }
 {
-    let mut i = 0;
-    while i < words.len() {
+    for i in 0..words.len() {
         words[i] = bits::union(words[i], word(more, i));
-        i += 1;
     }
 }

@@ -13,5 +13,5 @@ returns-then-k-lt64 c =
     ap (bit_or a.set) (shl_exact 1 a.k 64 (omega arith) (omega arith) ∙ one-mul (2 ^ a.k))
     ∙ sym (adding_with 64 a.set a.k c.ranges.set.fits (omega arith))
 
-pub returns : goal.returns
-returns c = sym (adding-past 64 c.args.set c.args.k c.ranges.set.fits (omega arith))
+pub returns-else-k-lt64 : goal.returns-else-k-lt64
+returns-else-k-lt64 c = sym (adding-past 64 c.args.set c.args.k c.ranges.set.fits (omega arith))

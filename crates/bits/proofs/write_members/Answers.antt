@@ -1,19 +1,15 @@
 -- A turn takes the first of what is left, for which there is room; where the loop stops nothing is left that has room.
-use Rattle.std.proofs.Common.{arith, ◌≡◌, sym, ap, ap₂, ◌∙◌, ℕ, suc, ◌+◌, ◌-◌, ◌*◌, ◌^◌, ◌<◌, ◌≤◌, List, [], ◌∷◌, length, get_or, take, drop, add-one}
+use Rattle.std.proofs.Common.{arith, ◌≡◌, sym, ap, ap₂, ◌∙◌, ℕ, suc, ◌+◌, ◌-◌, ◌*◌, ◌≤◌, List, [], ◌∷◌, length, take, add-one}
 use mathlib.Core.List.{append-nil}
 use native.Mathlib.Numerals.{add-two}
 use lib.ListN.{length-set, length-map, take-append-drop}
 use lib.Seq.{sets, take-nil}
 use Rattle.sets.specs.Sets.{members, reports, pairs_from, plus_each, replaced}
-use Rattle.sets.proofs.Members.{members-cons, members-empty, first-lt, reports_stored}
+use Rattle.sets.proofs.Members.{reports_stored}
 use Rattle.bits.proofs.write_members.Invariants.{due}
 use Rattle.bits.proofs.write_members.Goals as goal
 
--- a turn takes the first of what is left
-taken : (s k r : ℕ) → 0 < s → s < 2 ^ 64 → k ≡ get_or (members 64 s) 0 64 → members 64 r ≡ drop 1 (members 64 s) → members 64 s ≡ k ∷ members 64 r
-taken s k r p h e f = members-cons 64 s p h ∙ ap₂ ◌∷◌ (sym e) (sym f)
-
--- and there is room for it
+-- a turn takes the first of what is left, and there is room for it
 turn : (n to s k r : ℕ) → 2 ≤ n - to → members 64 s ≡ k ∷ members 64 r → due n to s ≡ k ∷ due n (to + 2) r
 turn n to s k r room e =
     let more : pairs_from n to ≡ suc (pairs_from n (to + 2)) = omega arith in
@@ -32,45 +28,28 @@ returns-then-out-at-clause-wrote c =
     let none : pairs_from (length a.out.now) a.at ≡ 0 = omega arith in
     rw none (rw (append-nil (take a.at a.out.now)) (sym (take-append-drop a.at a.out.now)))
 
-pub overflow_add-out : goal.overflow_add-out
-overflow_add-out c = omega (arith, first-lt 64 c.loop-left.left (omega arith) (omega arith), c.first.ensures)
-
-pub loop-left-smaller : goal.loop-left-smaller
-loop-left-smaller c =
-    let e = taken c.loop-left.left c.first.result c.rest-left.result (omega arith) (omega arith) c.first.ensures c.rest-left.ensures in
-    omega (arith, ap length e)
-
-pub loop-left-preserved : goal.loop-left-preserved
+pub loop-k-preserved : goal.loop-k-preserved
 unfolding reports
-loop-left-preserved c =
-    let n = length c.args.out.now in
-    let e : due n c.loop-left.to c.loop-left.left ≡ c.first.result ∷ due n (c.loop-left.to + 2) c.rest-left.result =
-    turn n c.loop-left.to c.loop-left.left c.first.result c.rest-left.result (omega arith) (taken c.loop-left.left c.first.result c.rest-left.result (omega arith) (omega arith) c.first.ensures c.rest-left.ensures) in (
-      omega arith,
-      simp length-set (omega arith),
-      omega arith,
-      omega (arith, ap length e),
-      rw (add-one, add-two) (rw (e, add-two) at c.loop-left.invariant.4),
-    )
+loop-k-preserved c =
+    let l = c.loop-k in
+    let e : due (length c.args.out.now) l.to l.k-iterator.0 ≡ c.in-Some.k ∷ due (length c.args.out.now) (l.to + 2) c.next.new.self.0 =
+    turn _ l.to l.k-iterator.0 c.in-Some.k c.next.new.self.0 (omega arith) c.in-Some.ensures.steps.1 in
+    (simp length-set (omega arith), omega arith, omega (arith, ap length e), rw (c.from.ensures, add-one, add-two) (rw (e, add-two) at l.invariant.3))
 
-pub returns-after-loop-left-clause-moved : goal.returns-after-loop-left-clause-moved
-returns-after-loop-left-clause-moved c =
-    let none : due (length c.args.out.now) c.loop-left.to c.loop-left.left ≡ [] = rw (c.loop-left-test.false, members-empty 64, take-nil) in
-    omega (arith, ap length none)
-
-pub returns-after-loop-left-clause-wrote : goal.returns-after-loop-left-clause-wrote
+-- nothing that is due is left
+written : (base end at to n s left : ℕ) (out old : List ℕ) → due n to left ≡ [] → to ≤ length old → to + 2 * length (due n to left) ≡ at + 2 * length (due n at s)
+    → sets out to (reports end (plus_each base (due n to left))) ≡ sets old at (reports end (plus_each base (due n at s)))
+    → out ≡ replaced at to (reports end (plus_each base (due n at s))) old
 unfolding reports
-returns-after-loop-left-clause-wrote c =
-    let a = c.args in
-    let n = length a.out.now in
-    let none : due n c.loop-left.to c.loop-left.left ≡ [] = rw (c.loop-left-test.false, members-empty 64, take-nil) in
-    stored a.base a.end a.at c.loop-left.to (due n a.at a.set) c.loop-left.out a.out.now (omega (arith, ap length none)) c.loop-left.invariant.2 (rw none at c.loop-left.invariant.4)
+written base end at to n s left out old none h e q = stored base end at to (due n at s) out old (omega (arith, ap length none)) h (rw none at q)
+
+pub returns-in-None-clause-wrote : goal.returns-in-None-clause-wrote
+returns-in-None-clause-wrote c =
+    let l = c.loop-k in
+    written _ _ _ l.to _ _ l.k-iterator.0 _ _ (rw (c.in-None.ensures.steps.0, take-nil)) (omega arith) l.invariant.2 l.invariant.3
 
 pub returns-then-out-to-lt2-clause-wrote : goal.returns-then-out-to-lt2-clause-wrote
-unfolding reports
 returns-then-out-to-lt2-clause-wrote c =
-    let a = c.args in
-    let n = length a.out.now in
-    let few : pairs_from n c.loop-left.to ≡ 0 = omega arith in
-    let none : due n c.loop-left.to c.loop-left.left ≡ [] = rw few in
-    stored a.base a.end a.at c.loop-left.to (due n a.at a.set) c.loop-left.out a.out.now (omega (arith, ap length none)) c.loop-left.invariant.2 (rw none at c.loop-left.invariant.4)
+    let l = c.loop-k in
+    let few : pairs_from (length c.args.out.now) l.to ≡ 0 = omega arith in
+    written _ _ _ l.to _ _ l.k-iterator.0 _ _ (rw few) (omega arith) l.invariant.2 l.invariant.3

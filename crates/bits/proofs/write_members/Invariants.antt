@@ -1,5 +1,5 @@
--- To store the reports of what is left and has room, from `to` on, gives what the whole call is to give. The measure is how many are left.
-use Rattle.std.proofs.Common.{◌≡◌, ℕ, ◌+◌, ◌*◌, ◌^◌, ◌<◌, ◌≤◌, List, length, take}
+-- To store the reports of what is left and has room, from `to` on, gives what the whole call is to give.
+use Rattle.std.proofs.Common.{◌≡◌, ℕ, ◌+◌, ◌*◌, ◌≤◌, List, length, take}
 use lib.Seq.{sets}
 use Rattle.sets.specs.Sets.{members, reports, pairs_from, plus_each}
 use Rattle.bits.proofs.write_members.Given as goal
@@ -8,11 +8,8 @@ use Rattle.bits.proofs.write_members.Given as goal
 abbrev pub due : ℕ → ℕ → ℕ → List ℕ
 due n to s = take (pairs_from n to) (members 64 s)
 
-abbrev pub invariant-loop-left : goal.invariant-loop-left
-invariant-loop-left l =
-    (l.left < 2 ^ 64) × (length l.out ≡ length l.fn.out) × (l.to ≤ length l.fn.out)
-    × (l.to + 2 * length (due (length l.fn.out) l.to l.left) ≡ l.at + 2 * length (due (length l.fn.out) l.at l.set))
-    × (sets l.out l.to (reports l.end (plus_each l.base (due (length l.fn.out) l.to l.left))) ≡ sets l.fn.out l.at (reports l.end (plus_each l.base (due (length l.fn.out) l.at l.set))))
-
-abbrev pub decreases-loop-left : goal.decreases-loop-left
-decreases-loop-left l = length (members 64 l.left)
+abbrev pub invariant-loop-k : goal.invariant-loop-k
+invariant-loop-k l =
+    (length l.out ≡ length l.fn.out) × (l.to ≤ length l.fn.out)
+    × (l.to + 2 * length (due (length l.fn.out) l.to l.k-iterator.0) ≡ l.at + 2 * length (due (length l.fn.out) l.at l.set))
+    × (sets l.out l.to (reports l.end (plus_each l.base (due (length l.fn.out) l.to l.k-iterator.0))) ≡ sets l.fn.out l.at (reports l.end (plus_each l.base (due (length l.fn.out) l.at l.set))))

@@ -1,14 +1,13 @@
--- One word more; at the end all of them.
-use native.Mathlib.Omega.{arith}
+-- By the test of each rule.
+use mathlib.Core.Path.{◌∙◌}
+use lib.Dec.{eqb}
+use lib.ListN.{get_or}
+use Rattle.std.proofs.Common.{rules}
 use Rattle.sets.specs.Sets.{set_of}
-use Rattle.sets.proofs.Writing.{writing_next}
-use Rattle.build.proofs.Laws.{is_word, words-made}
+use Rattle.build.proofs.Laws.{finished_in}
 use Rattle.build.proofs.ended.Goals as goal
 
-pub loop-i-preserved : goal.loop-i-preserved
-loop-i-preserved c =
-    let ws = c.args.set.now in
-    (omega arith, writing_next (omega arith) (omega arith) (c.ended_word.ensures (set_of ws) (is_word ws (λ j. (c.type_inv.set j).fits) c.loop-i.i)) c.loop-i.invariant.1)
-
 pub returns : goal.returns
-returns c = words-made c.args.rules _ c.loop-i.i c.loop-i.some c.requires.0.few c.loop-i-test.false c.loop-i.invariant.1
+returns c =
+    let a = c.args in
+    (c.those_of.ensures.passed (λ k. eqb (get_or a.book.now.lengths k 0) a.held) (λ k t l q. search rules) ∙ finished_in a.book.now a.held (set_of a.set.now), c.those_of.ensures.long)

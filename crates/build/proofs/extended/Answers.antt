@@ -1,16 +1,23 @@
--- One word more; at the end all of them.
+-- By the test of each rule of the live set, or of all.
+use mathlib.Core.Path.{◌∙◌}
 use native.Mathlib.Omega.{arith}
+use borrow.Author.Tests.{eq-eqb, ne_eqb}
+use Rattle.std.proofs.Common.{rules}
 use Rattle.sets.specs.Sets.{set_of}
-use Rattle.sets.proofs.Writing.{writing_next}
-use Rattle.build.proofs.Laws.{is_word, words-made, onward_in}
+use Rattle.meaning.specs.Rules.{fits_at}
+use Rattle.book.specs.Meant.{rules_held}
+use Rattle.build.proofs.Laws.{next_in, in-all}
 use Rattle.build.proofs.extended.Goals as goal
-
-pub loop-i-preserved : goal.loop-i-preserved
-loop-i-preserved c =
-    let ws = c.args.live.now in
-    (omega arith, writing_next (omega arith) (omega arith) (c.extended_word.ensures (set_of ws) (is_word ws (λ j. (c.type_inv.live j).fits) c.loop-i.i)) c.loop-i.invariant.1)
+use Rattle.build.proofs.extended.Goals.{then-held-eq0, else-held-eq0}
 
 pub returns : goal.returns
 returns c =
-    let made = words-made c.args.rules _ c.loop-i.i c.loop-i.set c.requires.0.few c.loop-i-test.false c.loop-i.invariant.1 in
-    (onward_in c.args.symbols.now c.args.lengths.now c.args.pictures.now c.args.rules c.args.held (set_of c.args.live.now) c.args.byte made.0, made.1)
+    let a = c.args in
+    let r = rules_held a.book.now in
+    let those = c.those_of.ensures.passed (λ k. fits_at r a.byte k a.held) (λ k t l q. search rules) in (
+      those ∙ next_in a.book.now a.held (set_of a.live.now) a.byte (set_of c.if-held-eq0.set.now) (elim c.if-held-eq0.branch [
+        | then-held-eq0 w ↦ λ k l. rw (w.set-is, eq-eqb a.held 0 w.if-held-eq0.true) (in-all k (omega (arith, l, c.requires.few)))
+        | else-held-eq0 w ↦ λ k l. rw (w.set-is, ne_eqb a.held 0 w.if-held-eq0.false)
+      ]),
+      c.those_of.ensures.long,
+    )

@@ -16,7 +16,7 @@ lower goto fall row c r d l h e = d.down r h (λ z. d.last c l (subst (λ (n : �
 pub loop-r-preserved : goal.loop-r-preserved
 loop-r-preserved c = (
   omega (arith, lower _ _ _ _ _ c.requires.descends c.requires.is_byte c.loop-r.invariant.0 c.loop-r-test.true),
-  λ e f. c.loop-r.invariant.1 e (record { falls_made = suc f.falls_made; way = falls c.loop-r-test.true f.way }),
+  λ e f. c.loop-r.invariant.1 e (record { falls_made = suc f.falls_made; way = falls c.loop-r-test.true (rw c.from-r-in-loop-r.ensures at f.way) }),
 )
 
 pub returns : goal.returns

@@ -1,33 +1,22 @@
 -- By what its calls ensure: tables of zeros, then filled, and of zeros again where there is no room.
-use mathlib.Core.Path.{◌∙◌}
-use Rattle.build.specs.Course.{others}
-use Rattle.build.proofs.Zeroed.{empty_at, rows_at, refused_at, zeros_as}
+use Rattle.lent.specs.Lent.{buffers_of}
+use Rattle.build.specs.Course.{made_all, empty, refused}
+use Rattle.build.proofs.Laws.{short_in}
+use Rattle.build.proofs.Sanity.{crowded-long}
+use Rattle.build.proofs.Zeroed.{zero_sane, zero_again}
 use Rattle.build.proofs.make.Goals as goal
 
-pub returns-then-rows-eq0 : goal.returns-then-rows-eq0
-returns-then-rows-eq0 c =
-    let a = c.args in
-    let z = c.zero_all.new in
-    empty_at a.goto.now (others a.fall.now a.held.now a.live.now a.out.now) {w = others z.fall z.held z.live z.out} c.rows_lent-rows.ensures c.zero_all.ensures _ c.if-rows-eq0.true
+pub returns-then-lent-eq0-clause-course : goal.returns-then-lent-eq0-clause-course
+returns-then-lent-eq0-clause-course c = rw c.zero.ensures.zeros (empty (rw c.lent-lent.ensures at c.if-lent-eq0.true))
 
-pub returns-in-Rows : goal.returns-in-Rows
-returns-in-Rows c =
-    let a = c.args in
-    let z = c.zero_all.new in
-    let f = c.fill_all-filled.new in
-    rows_at a.goto.now (others a.fall.now a.held.now a.live.now a.out.now) {w = others z.fall z.held z.live z.out} c.rows_lent-rows.ensures c.zero_all.ensures
-    {u = others f.fall f.held f.live f.out} c.if-rows-eq0.false c.in-Rows.ensures
+pub returns-in-Some-clause-course : goal.returns-in-Some-clause-course
+returns-in-Some-clause-course c =
+    made_all (rw c.lent-lent.ensures at c.if-lent-eq0.false) (rw (c.lent-lent.ensures, c.zero.ensures.zeros) at c.in-Some.ensures.course)
 
--- the tables are as long as they were, so as many zeros
-pub returns-in-Full : goal.returns-in-Full
-returns-in-Full c =
-    let a = c.args in
-    let z = c.zero_all.new in
-    let f = c.fill_all-filled.new in
-    let w = c.zero_all-in-Full.new in
-    let k = c.fill_all-filled.auto in
-    let j = c.zero_all.auto in
-    let q = c.zero_all-in-Full.ensures in
-    refused_at a.goto.now (others a.fall.now a.held.now a.live.now a.out.now) {w = others z.fall z.held z.live z.out} c.rows_lent-rows.ensures c.zero_all.ensures
-    {u = others f.fall f.held f.live f.out} {w2 = others w.fall w.held w.live w.out} c.if-rows-eq0.false c.in-Full.ensures
-    (zeros_as q.0 (k.goto ∙ j.goto), zeros_as q.1 (k.fall ∙ j.fall), zeros_as q.2 (k.held ∙ j.held), zeros_as q.3 (k.live ∙ j.live), zeros_as q.4 (k.out ∙ j.out))
+pub returns-in-None-clause-course : goal.returns-in-None-clause-course
+returns-in-None-clause-course c =
+    let old = buffers_of c.args.buffers.now in
+    let ne = rw c.lent-lent.ensures at c.if-lent-eq0.false in
+    let course = rw (c.lent-lent.ensures, c.zero.ensures.zeros) at c.in-None.ensures.course in
+    let long = crowded-long (short_in _ c.requires) (zero_sane old ne) course in
+    rw (c.zero-in-None.ensures.zeros, zero_again old _ long, c.lent-lent.ensures) (refused ne course)

@@ -1,19 +1,17 @@
--- A turn compares two neighbours; where none are left the rest rises.
-use Rattle.std.proofs.Common.{◌∙◌, sym, arith}
-use Rattle.format.proofs.Turns.{ascending_empty, ascending_starts, rises_not, rises-more, rises-ends}
+-- The body has a byte, and the test of neighbours says whether they rise.
+use Rattle.std.proofs.Common.{sym, rules, arith, ltb, length}
+use borrow.Author.Tests.{lt-ltb, eqb-false}
+use Rattle.std.proofs.lemmas.List.Sorted.{answers_always}
+use Rattle.format.specs.Format.{ascending_body}
+use Rattle.format.proofs.Members.{rises-test}
 use Rattle.format.proofs.is_ascending.Goals as goal
 
-pub returns-then-body-eq0 : goal.returns-then-body-eq0
-returns-then-body-eq0 c = ascending_empty _ c.if-body-eq0.true
+pub returns-then-not-is_empty : goal.returns-then-not-is_empty
+unfolding ascending_body
+returns-then-not-is_empty c =
+    let h = c.is_sorted_by.ensures.cases ltb (answers_always _ _ _ (λ f a r g h. search rules)) in
+    rw (lt-ltb 0 (length c.args.body.now) (omega (arith, eqb-false (length c.args.body.now) 0 (sym c.if-not-is_empty.ensures)))) (rises-test _ _ h)
 
-pub loop-i-init : goal.loop-i-init
-loop-i-init c = (omega arith, ascending_starts _ c.if-body-eq0.false)
-
-pub returns-then-body-i : goal.returns-then-body-i
-returns-then-body-i c = sym (c.loop-i.invariant.1 ∙ rises_not c.args.body.now c.loop-i.i (omega arith) (omega arith))
-
-pub loop-i-preserved : goal.loop-i-preserved
-loop-i-preserved c = (omega arith, c.loop-i.invariant.1 ∙ rises-more c.args.body.now c.loop-i.i (omega arith) (omega arith))
-
-pub returns : goal.returns
-returns c = sym (c.loop-i.invariant.1 ∙ rises-ends c.args.body.now c.loop-i.i (omega arith))
+pub returns-else-not-is_empty : goal.returns-else-not-is_empty
+unfolding ascending_body
+returns-else-not-is_empty c = search rules

@@ -1,9 +1,9 @@
--- What was read so far is within the room, which keeps its length.
-use Rattle.std.proofs.Common.{length, ◌-◌, ◌≡◌, ◌≤◌}
+-- What was read so far is within the room.
+use Rattle.std.proofs.Common.{length, ◌-◌, ◌≤◌}
 use Rattle.inputs.proofs.read_all.Given as goal
 
 abbrev pub invariant-loop-done : goal.invariant-loop-done
-invariant-loop-done g l = (length l.room ≡ length l.fn.room) × (l.done ≤ length l.room)
+invariant-loop-done g l = l.done ≤ length l.room
 
 abbrev pub decreases-loop-done : goal.decreases-loop-done
 decreases-loop-done g l = length l.room - l.done

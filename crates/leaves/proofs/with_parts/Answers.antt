@@ -4,4 +4,4 @@ use Rattle.leaves.proofs.Records.{with_filled}
 use Rattle.leaves.proofs.with_parts.Goals as goal
 
 pub returns : goal.returns
-returns c = with_filled c.args.old c.args.parts.now c.loop-i.invariant.1 (omega arith)
+returns c = with_filled c.args.old c.args.parts.now c.loop-i.invariant (omega arith)

@@ -1,5 +1,5 @@
 -- The totals so far have their parts.
-use Rattle.std.proofs.Common.{◌≤◌, ◌-◌, ◌+◌}
+use Rattle.std.proofs.Common.{◌+◌}
 use Rattle.book.specs.Limits.{most_rules}
 use Rattle.shares.specs.Shares.{amount_at}
 use Rattle.shares.proofs.Tables.{Filled}
@@ -7,7 +7,4 @@ use Rattle.leaf_totals.specs.Record.{total_at}
 use Rattle.leaves.proofs.with_parts.Given as goal
 
 abbrev pub invariant-loop-i : goal.invariant-loop-i
-invariant-loop-i l = (l.i ≤ most_rules) × Filled (λ k. total_at l.old k + amount_at l.parts k) most_rules l.i l.totals
-
-abbrev pub decreases-loop-i : goal.decreases-loop-i
-decreases-loop-i l = most_rules - l.i
+invariant-loop-i l = Filled (λ k. total_at l.old k + amount_at l.parts k) most_rules l.i l.totals

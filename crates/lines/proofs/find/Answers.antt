@@ -1,13 +1,16 @@
--- The first mark from here on is the first from `from` on: a turn takes in a byte that is none.
-use native.Mathlib.Omega.{arith}
-use Rattle.lines.proofs.Lines.{up_here, up_more, up_end}
+-- The mark that `position` finds is the first.
+use Rattle.std.proofs.Common.{rules, arith, ◌≡◌, drop, length-drop}
+use Rattle.std.proofs.lemmas.Grind.{common_steps}
+use Rattle.lines.specs.Lines.{up_to}
+use Rattle.lines.proofs.Lines.{FirstAt, first_is, up_le}
 use Rattle.lines.proofs.find.Goals as goal
 
-pub returns-then-text-at : goal.returns-then-text-at
-returns-then-text-at c = let a = c.args in omega (arith, up_here a.mark a.text.now _ c.loop-at-test.true c.if-text-at.true)
-
-pub loop-at-preserved : goal.loop-at-preserved
-loop-at-preserved c = let a = c.args in omega (arith, up_more a.mark a.text.now _ c.loop-at-test.true c.if-text-at.false)
-
 pub returns : goal.returns
-returns c = let a = c.args in omega (arith, up_end a.mark a.text.now _ c.loop-at-test.false)
+returns c =
+    let mark = c.args.mark in
+    let rest = c.iter.result.rest.now in
+    let at : FirstAt mark rest c.position.result = search rules in
+    let e = first_is mark rest c.position.result at in
+    let d : rest ≡ drop c.args.from c.args.text.now = grind (arith, common_steps) in
+    let r : c.unwrap_or.result ≡ up_to mark (drop c.args.from c.args.text.now) = cc in
+    (omega (arith, r), omega (arith, r, up_le mark (drop c.args.from c.args.text.now), length-drop c.args.from c.args.text.now))

@@ -19,6 +19,5 @@ returns-then-out-row c =
 
 pub returns : goal.returns
 returns c =
-    let w = c.loop-i.invariant.1 in
-    let all : c.loop-i.i ≡ row_words = omega arith in
+    let w = c.loop-i.invariant in
     (sym (rules-words c.args.out.now c.args.row c.loop-i.set (omega (arith, w.long)) (λ j h. sym (rw zero-add at (w.done j (omega arith))))), w.long)

@@ -1,11 +1,10 @@
--- The lines of the reports so far are put.
-use Rattle.std.proofs.Common.{length, drop, ◌-◌, ◌≡◌, ◌≤◌}
+-- The lines of the reports so far are put, and the rest are left.
+use Rattle.std.proofs.Common.{◌≡◌}
 use Rattle.shown.specs.Shown.{report_lines}
 use Rattle.shown.proofs.Laws.{Front}
 use Rattle.shown.proofs.put_reports.Given as goal
 
-abbrev pub invariant-loop-i : goal.invariant-loop-i
-invariant-loop-i l = (length l.answer ≡ length l.fn.answer) × (l.i ≤ length l.reports) × Front (report_lines l.reports) (report_lines (drop l.i l.reports)) l.fn.answer l.at l.answer l.to
-
-abbrev pub decreases-loop-i : goal.decreases-loop-i
-decreases-loop-i l = length l.reports - l.i
+abbrev pub invariant-loop-report : goal.invariant-loop-report
+invariant-loop-report l =
+    (l.report-iterator.size ≡ 2)
+    × Front (report_lines l.reports) (report_lines l.report-iterator.rest.now) l.fn.answer l.answer

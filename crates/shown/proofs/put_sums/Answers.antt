@@ -5,13 +5,13 @@ use Rattle.shown.proofs.put_sums.Goals as goal
 
 pub loop-rule-preserved : goal.loop-rule-preserved
 loop-rule-preserved c =
-    let front = rw (sums_next c.args.sums.now c.loop-rule.rule (omega arith)) at c.loop-rule.invariant.2 in
-    (omega (arith, c.put_sum-to.auto.answer), omega arith, front_next front c.put_sum-to.ensures)
+    let front = rw (sums_next c.args.sums.now c.loop-rule.rule (omega arith)) at c.loop-rule.invariant in
+    front_next front c.put_sum.ensures
 
 pub returns-clause-bounded : goal.returns-clause-bounded
-returns-clause-bounded c = sums-length 0 c.args.sums.now (omega arith) (λ i. (c.type_inv.sums i).fits)
+returns-clause-bounded c = sums-length 0 c.args.sums.now
 
 pub returns-clause-puts : goal.returns-clause-puts
 returns-clause-puts c =
-    let front = rw (sums_end c.args.sums.now c.loop-rule.rule (omega arith)) at c.loop-rule.invariant.2 in
+    let front = rw (sums_end c.args.sums.now c.loop-rule.rule (omega arith)) at c.loop-rule.invariant in
     front_all front

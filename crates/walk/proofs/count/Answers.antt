@@ -1,45 +1,47 @@
 -- A fall leaves the move from the lower row; a byte's move goes on with the run or, where it is lost, stops it.
-use Rattle.std.proofs.Common.{arith, ◌≢◌, sym, ◌∙◌}
-use Rattle.meaning.specs.Tables.{no_entry}
-use Rattle.one_byte.specs.declared.Moved.TheVariants.{Reached, Lost}
-use Rattle.one_byte.proofs.Laws.{falls-back, first_go, first-fall, first_wrong}
+use Rattle.std.proofs.Common.{arith, sym, ◌∙◌, None}
+use Rattle.one_byte.specs.Move.{reached}
+use Rattle.one_byte.proofs.Laws.{by_go, by_fall, by_wrong}
 use Rattle.walk.proofs.Laws.{run_end, run-move}
 use Rattle.walk.proofs.count.Goals as goal
-use Rattle.walk.proofs.count.Goals.{else-bytes-test, then-bytes-test+else-entry-n+then-is_unwritten}
+use Rattle.walk.proofs.count.Goals.{else-bytes-test, then-bytes-test+in-Wrong}
+
+pub falls-smaller : goal.falls-smaller
+falls-smaller c =
+    let f = by_fall _ _ _ _ _ c.falls.falls c.in-Fall.ensures.look in
+    omega (arith, f.0, c.in-Fall.ensures.row)
 
 pub falls-preserved : goal.falls-preserved
 falls-preserved c =
-    let f = c.falls in
-    let (q, h) = falls-back _ _ _ _ c.if-entry-n.false (sym c.is_unwritten.ensures ∙ c.if-is_unwritten.false) in
-    (omega arith, omega arith, f.invariant.2, sym (first-fall _ _ _ _ _ f.more c.entry_at-entry.ensures c.fall_at-to.ensures q h) ∙ f.invariant.3)
+    let i = c.falls.invariant in
+    let e = c.in-Fall.ensures in
+    let f = by_fall _ _ _ _ _ c.falls.falls (rw i.0 at e.look) in
+    (e.same ∙ i.0, omega (arith, f.0, e.row), i.2, rw e.row (sym f.1 ∙ i.3))
 
 pub bytes-preserved : goal.bytes-preserved
 bytes-preserved c =
-    let e = c.entry_at-entry in
-    let f = c.falls in
     let b = c.bytes in
-    let ne : e.result ≢ no_entry = omega arith in
-    let l = sym f.invariant.3 ∙ first_go _ _ _ _ _ f.more e.ensures ne c.if-entry-n.true in (
-      c.if-entry-n.true,
-      omega arith,
-      omega arith,
-      omega arith,
-      f.invariant.2,
-      rw c.many-made.ensures.0 (sym (run-move _ _ _ _ _ b.at b.row b.falls b.made (Reached _ f.more) (omega arith) l) ∙ b.invariant.5),
-    )
+    let f = c.falls in
+    let e = c.in-Go.ensures in
+    let go = by_go _ _ _ _ _ _ (rw f.invariant.0 at e.look) in
+    let run = run-move _ _ _ _ _ b.at b.run.row b.run.falls b.run.made (reached c.in-Go.row f.falls) c.bytes-test.true (rw b.invariant.1 at (sym f.invariant.3 ∙ go.1)) in
+    (e.same ∙ f.invariant.0, e.row, omega arith, omega arith, f.invariant.2, rw (c.many.ensures.0, c.ending.ensures.members) (sym run ∙ b.invariant.5))
 
-pub returns-then-sound : goal.returns-then-sound
-returns-then-sound c =
+pub returns-in-None : goal.returns-in-None
+returns-in-None c =
     elim c.bytes-test.branch [
-      | else-bytes-test w ↦ rw w.row-is (sym (run_end _ _ _ _ _ _ _ _ _ w.bytes-test.false) ∙ c.bytes.invariant.5)
-      | then-bytes-test+else-entry-n+then-is_unwritten w ↦ cc
+      | else-bytes-test w ↦ sym (run_end _ _ _ _ _ _ _ _ _ w.bytes-test.false) ∙ c.bytes.invariant.5
+      | then-bytes-test+in-Wrong w ↦ cc
     ]
 
-pub returns-else-sound : goal.returns-else-sound
-returns-else-sound c =
+pub returns-in-Some : goal.returns-in-Some
+returns-in-Some c =
     elim c.bytes-test.branch [
       | else-bytes-test w ↦ cc
-      | then-bytes-test+else-entry-n+then-is_unwritten w ↦
-          let lost = first_wrong _ _ _ _ _ w.falls.more w.entry_at-entry.ensures w.fall_at-to.ensures (sym w.is_unwritten.ensures ∙ w.if-is_unwritten.true) in
-          sym (run-move _ _ _ _ _ _ _ _ _ Lost w.bytes-test.true (sym w.falls.invariant.3 ∙ lost)) ∙ c.bytes.invariant.5
+      | then-bytes-test+in-Wrong w ↦
+          let f = w.falls.invariant in
+          let b = c.bytes in
+          let wrong = by_wrong _ _ _ _ _ _ (rw f.0 at w.in-Wrong.ensures.look) in
+          let run = run-move _ _ c.args.tables.now.out.now _ _ b.at b.run.row b.run.falls b.run.made None w.bytes-test.true (rw b.invariant.1 at (sym f.3 ∙ wrong)) in
+          cc (run, b.invariant.5)
     ]

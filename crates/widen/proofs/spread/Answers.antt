@@ -8,5 +8,5 @@ use Rattle.widen.proofs.spread.Goals as goal
 pub returns : goal.returns
 unfolding widened
 returns c =
-    let w = c.loop-i.invariant.1 in
+    let w = c.loop-i.invariant in
     is_table _ _ _ w.long (λ j h. rw zero-add at (w.done j (omega (arith, w.long))))

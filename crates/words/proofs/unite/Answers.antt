@@ -16,10 +16,10 @@ joined us vs ws i all w =
 pub returns-clause-each : goal.returns-clause-each
 returns-clause-each c =
     let a = c.args in
-    joined a.words.now a.more.now c.loop-i.words c.loop-i.i (omega arith) c.loop-i.invariant.1
+    joined a.words.now a.more.now c.loop-i.words c.loop-i.i (omega arith) c.loop-i.invariant.0
 
 pub returns-clause-as_sets : goal.returns-clause-as_sets
 returns-clause-as_sets c = λ h.
     let a = c.args in
-    let e = joined a.words.now a.more.now c.loop-i.words c.loop-i.i (omega arith) c.loop-i.invariant.1 in
-    rw e (set_of-united a.words.now a.more.now c.loop-i.invariant.2 (λ i. (c.type_inv.more i).fits) h)
+    let e = joined a.words.now a.more.now c.loop-i.words c.loop-i.i (omega arith) c.loop-i.invariant.0 in
+    rw e (set_of-united a.words.now a.more.now c.loop-i.invariant.1 (λ i. (c.type_inv.more i).fits) h)

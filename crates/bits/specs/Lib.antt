@@ -1,0 +1,2 @@
+-- What is said of the members of a set passed one by one. Assumes nothing.
+pub mod Passing

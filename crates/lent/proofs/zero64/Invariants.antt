@@ -1,9 +1,0 @@
--- The first i entries are 0, the rest as they were.
-use Rattle.std.proofs.Common.{◌≡◌, ◌≤◌, ◌-◌, ◌++◌, length, drop, replicate}
-use Rattle.lent.proofs.zero64.Given as goal
-
-abbrev pub invariant-loop-i : goal.invariant-loop-i
-invariant-loop-i l = (l.i ≤ length l.words) × (l.words ≡ replicate l.i 0 ++ drop l.i l.initial.words)
-
-abbrev pub decreases-loop-i : goal.decreases-loop-i
-decreases-loop-i l = length l.words - l.i

@@ -1,0 +1,2 @@
+-- The laws of `program`. Assumes nothing.
+pub mod Laws

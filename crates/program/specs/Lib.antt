@@ -1,0 +1,2 @@
+-- What the contracts of `program` cite. Assumes nothing.
+pub mod Program

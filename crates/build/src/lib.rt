@@ -166,9 +166,9 @@ impl Chains {
     }
 }
 
-// The rows of a book so far, but for goto, of which one row is lent: how many there may be, how many there are, and their chains. That they
-// are ready is no ghost field, as a new row is written through four references, one after the other. That book and room stay (`SameRows`) is
-// said by each function, as a `&mut` promises nothing of what it leaves.
+// The rows of a book so far, but for goto, of which one row is lent: how many there may be, how many there are (a count beside them, as nothing
+// allocates), and their chains. That they are ready is no ghost field, as a new row is written through four references, one after the other. That
+// book and room stay (`SameRows`) is said by each function, as a `&mut` promises nothing of what it leaves.
 #[derive(Drop)]
 struct Rows<'a> {
     book: &'a Book,

@@ -171,7 +171,7 @@ fn write_answer<A: Numbered>(label: &[u8], answer: &A) {
     print(answer.value());
 }
 
-// By hand, since `print!` takes the runtime, which would go through every function here.
+// By hand, since `print!` takes the runtime, which would go through every function here; the same as in `book_cases`, which says why.
 fn print(n: u64) {
     io::write_all(1, b" ");
     io::print_decimal(1, n);

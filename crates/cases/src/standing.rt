@@ -62,7 +62,7 @@ impl Standing {
     }
 }
 
-// The rows that are known, and for how many there is room; and whether goto has their entries, beside them: also where it does not, the other tables are
+// The rows that are known, counted, as nothing allocates, and for how many there is room; and whether goto has their entries, beside them: also where it does not, the other tables are
 // compared with the rows.
 #[derive(Clone, Copy)]
 pub struct Rows {

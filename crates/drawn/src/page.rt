@@ -3,7 +3,7 @@ ghost use Rattle.std.specs.Prelude.{◌≡◌, ◌+◌, ◌-◌, ◌*◌, ◌<�
 
 use crate::has;
 
-// So many bytes, one after the other. Those past the room are left out.
+// So many bytes, one after the other: a count beside their room, as nothing allocates. Those past the room are left out.
 #[derive(Clone, Copy)]
 pub struct Page {
     bytes: [u8; Page::ROOM],

@@ -90,7 +90,7 @@ const LONGEST: usize = 1048576;
 // The entry of goto that says: fall back.
 pub const NO_ENTRY: u16 = 65535;
 
-// The row that a byte leads to, and by how many fallbacks.
+// The row that a byte leads to, and by how many fallbacks: written once more, as above.
 #[derive(Clone, Copy)]
 pub struct Moved {
     pub row: usize,

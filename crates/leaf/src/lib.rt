@@ -62,7 +62,7 @@ fn lowest(live: &[u64], out: &[u64]) -> usize
     Book::RULES
 }
 
-// The family of a leaf of `size` bytes whose walk ends in the row.
+// The family of a leaf of `size` bytes whose walk ends in the row, or the place of unnamed, as above.
 #[tactic(auto, unfolding(crate::specs::Leaf::family_at))]
 fn family(tables: &Machine, row: usize, size: usize) -> usize
     ensures { result ≡ family_at tables.now.held.now tables.now.live.now tables.now.out.now row size }

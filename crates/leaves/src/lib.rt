@@ -16,7 +16,7 @@ use lent::Machine;
 use lines::LF;
 use shares::{LIMIT, PLACES, Shares};
 
-// The answer beside the record, which a refused profile hands back too.
+// The answer beside the record, which a refused profile hands back too (paper).
 #[derive(Clone, Copy)]
 pub struct Handed {
     pub answer: Result<(), AddRefusal>,
@@ -25,7 +25,7 @@ pub struct Handed {
 
 // ---- a profile
 
-// The counts of a profile's lines, each at its leaf's place.
+// The counts of a profile's lines, each at its leaf's place. By offsets, as `lines::find` says.
 fn count_lines(tables: &Machine, profile: &[u8]) -> Result<[u64; PLACES], Damaged>
     requires { length profile.now ≤ most_bytes }
     ensures { result ≡ counted_lines (tables_of tables.now) tables.now.rows profile.now }

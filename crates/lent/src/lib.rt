@@ -10,7 +10,7 @@ use words::WORDS;
 // The entry that says: fall back. A number, as the paper fixes what goto holds.
 pub const NO_ENTRY: u16 = 65535;
 
-// The rows lent by tables of these lengths.
+// The rows lent by tables of these lengths: five numbers, as its promise is of any five.
 pub fn rows_lent(goto: usize, fall: usize, held: usize, live: usize, out: usize) -> usize
     ensures { result ≡ lent_of goto fall held live out }
 {
@@ -54,7 +54,8 @@ impl Machine<'_> {
     }
 }
 
-// Five buffers to be filled. Each function that fills them says that they are the same five (IsSame): so the caller's slices are known.
+// Five buffers to be filled: `&mut` slices, where a machine has shared ones. Each function that fills them says that they are the same five (IsSame), as a
+// `&mut` promises nothing of what it leaves: so the caller's slices are known.
 #[derive(Drop)]
 pub struct Buffers<'a> {
     pub goto: &'a mut [u16],

@@ -36,7 +36,7 @@ pub fn find(text: &[u8], from: usize, mark: u8) -> usize
     from + rest.iter().position(|c| *c == mark).unwrap_or(rest.len())
 }
 
-// The place of the last `mark`, or the length.
+// The place of the last `mark`, or the length: a number, as its promise is of any text.
 #[tactic(auto, using(crate::proofs::Written::last_is_told))]
 pub fn find_last(text: &[u8], mark: u8) -> usize
     ensures { (result ≡ last_of mark text.now) × (result ≤ length text.now) }
@@ -91,7 +91,7 @@ pub fn read_line(line: &[u8]) -> Option<Line>
     Some(Line { stack, count })
 }
 
-// The first pass: ends at the first line that breaks the rules.
+// The first pass: ends at the first line that breaks the rules. By offsets, as `find` says.
 pub fn check(profile: &[u8]) -> Result<(), BadLine>
     ensures { result ≡ check_of profile.now }
 {

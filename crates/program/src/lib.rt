@@ -39,7 +39,8 @@ pub fn run<F: FnOnce(&[u8], &[u8])>(rt: &(impl Files + io::Input), then: F)
 }
 
 // Builds the book's tables, and puts the line of that; where they are built, the lines of the program come behind it. Answers where they end.
-// They are whole where there is room for them; and the rest of the buffer is as it was.
+// They are whole where there is room for them; and the rest of the buffer is as it was. An end and no slice, as the buffer is the caller's and the promise is of
+// all of it.
 pub fn put_answer<L: Lines>(book: &[u8], lines: &L, bytes: &mut [u8]) -> usize
     ensures within { result ≤ length bytes.new }
     ensures long { length bytes.new ≡ length bytes.old }

@@ -19,7 +19,7 @@ pub const PLACES: usize = Book::RULES + 1;
 #[derive(Clone, Copy)]
 pub struct Past;
 
-// The answer beside the shares, which are all 0 where it is a refusal.
+// The answer beside the shares, which are all 0 where it is a refusal (paper).
 #[derive(Drop)]
 pub struct Shares {
     pub answer: Result<(), Past>,
@@ -55,7 +55,7 @@ fn within(totals: &[u64; PLACES]) -> Result<u64, Past>
     Ok(sum)
 }
 
-// The same where it is asked for as a number: LIMIT + 1 where it is more.
+// The same as a number, as its promise is of any totals: LIMIT + 1 where it is more.
 pub fn total(totals: &[u64; PLACES]) -> u64
     ensures { result ≡ min (total_of totals.now) (limit + 1) }
 {

@@ -85,7 +85,7 @@ fn walk_frame(tables: &Machine, frame: &Piece, seen: &mut Set) -> Result<(), Dam
     Ok(())
 }
 
-// Walks each frame of a stack. An empty one at the end has no byte to walk, and is not come to.
+// Walks each frame of a stack, by offsets, as `lines::find` says. An empty one at the end has no byte to walk, and is not come to.
 #[tactic(auto, using(crate::proofs::Walks::of_stacks), unfolding(crate::specs::Tally::stack_pass, crate::specs::Tally::stack_rules))]
 fn walk_stack(tables: &Machine, stack: &Piece, seen: &mut Set) -> Result<(), Damaged>
     ensures pass { result ≡ stack_pass (moves_over tables.now) stack.now.base stack.now.bytes.now }
@@ -115,7 +115,7 @@ fn walk_line(tables: &Machine, line: &Piece, sums: &mut [u64; Book::RULES]) -> R
     Ok(())
 }
 
-// The second pass: walks each line.
+// The second pass: walks each line, by offsets likewise.
 #[tactic(auto, using(crate::proofs::Walks::of_lines), unfolding(crate::specs::Tally::lines_pass, crate::specs::Tally::lines_sums))]
 fn walk_lines(
     tables: &Machine,

@@ -164,7 +164,7 @@ pub record RowsUsed (lent n : ℕ) (t : Others) : Type 0 where
   pub out_room : row_words * lent ≤ length t.out
 
 -- what each step relies on and keeps: the book keeps its limits, the rows have room, and they are in chains
-pub record Ready (r : Rows) : Type 0 where
+pub record RowsReady (r : Rows) : Type 0 where
   pub within : Within r.book.now
   pub room : RowsUsed r.lent r.used (others_of r)
   pub chained : Chained r.chains (chain_at r.fall.now r.live.now) r.used

@@ -12,7 +12,7 @@ ghost use Rattle.book.specs.Meant.{rules_held};
 ghost use Rattle.lent.specs.Lent.{buffers_of, IsSame};
 ghost use Rattle.promised.specs.Promise.{Promise};
 ghost use Rattle.build.specs.Sets.{Within};
-ghost use Rattle.build.specs.Course.{Leads, Descends, chain_of, Chained, Ready};
+ghost use Rattle.build.specs.Course.{Leads, Descends, chain_of, Chained, RowsReady};
 ghost use Rattle.build.specs.Course.{others_of, sides, SameRows, Found, Rising, Added};
 ghost use Rattle.build.specs.Course.{InHand, onward, RowOf, Place, RowFilled, Sane, RowBuilt, EveryRow, AllFilled, Makes};
 
@@ -192,7 +192,7 @@ impl Rows<'_> {
 
     // The row with this key. The rows of a chain stand newest first; the held lengths ascend, so it ends where one is below the key's.
     fn find(&self, key: &Key) -> Option<usize>
-        requires ready { Ready self.now }
+        requires ready { RowsReady self.now }
         requires rising { Rising self.now.held.now self.now.used key.now.held }
         ensures { Found (others_of self.now) self.now.used key.now.held (set_of key.now.live) key.now.fall result }
     {
@@ -211,7 +211,7 @@ impl Rows<'_> {
 
     // What ends in a row with this key: the rules of its live set that have so many symbols, and what ends in the row that it falls to.
     fn ends(&self, key: &Key) -> Set
-        requires ready { Ready self.now }
+        requires ready { RowsReady self.now }
         requires falls_in { key.now.fall < self.now.used }
         ensures { (set_of result ≡ bit_or (finished (rules_held self.now.book.now) key.now.held (set_of key.now.live)) (rules_at self.now.out.now key.now.fall))
             × (length result ≡ row_words) }
@@ -223,7 +223,7 @@ impl Rows<'_> {
 
     // The rules that go on with the byte from row s.
     fn onward(&self, s: usize, byte: u8) -> Set
-        requires ready { Ready self.now }
+        requires ready { RowsReady self.now }
         requires row_in { s < self.now.used }
         ensures { (set_of result ≡ onward (rules_held self.now.book.now) (others_of self.now) s byte) × (length result ≡ row_words) }
     {
@@ -251,11 +251,11 @@ impl Rows<'_> {
     fn add(&mut self, key: &Key) -> u16
         requires falls_in { key.now.fall < self.old.used }
         requires room { self.old.used < self.old.lent }
-        requires ready { Ready self.old }
+        requires ready { RowsReady self.old }
         ensures row { (result ≡ self.old.used) × (self.new.used ≡ self.old.used + 1) }
         ensures added { Added (finished (rules_held self.old.book.now) key.now.held (set_of key.now.live)) self.old.used key.now.held (set_of key.now.live) key.now.fall
             (others_of self.old) (others_of self.new) }
-        ensures ready { Ready self.new }
+        ensures ready { RowsReady self.new }
         ensures same { SameRows self.old self.new }
     {
         let n = self.used;
@@ -273,10 +273,10 @@ impl Rows<'_> {
     fn row_of(&mut self, key: &Key) -> Option<u16>
         requires falls_in { key.now.fall < self.old.used }
         requires rising { Rising self.old.held.now self.old.used key.now.held }
-        requires ready { Ready self.old }
+        requires ready { RowsReady self.old }
         ensures course { RowOf (finished (rules_held self.old.book.now) key.now.held (set_of key.now.live)) self.old.lent self.old.used key.now.held (set_of key.now.live) key.now.fall
             (others_of self.old) (others_of self.new) self.new.used result }
-        ensures ready { Ready self.new }
+        ensures ready { RowsReady self.new }
         ensures same { SameRows self.old self.new }
     {
         if let Some(i) = self.find(key) {
@@ -292,9 +292,9 @@ impl Rows<'_> {
     fn place(&mut self, s: usize, byte: u8, via: u16) -> Option<u16>
         requires in_hand { InHand self.old.used s (others_of self.old) }
         requires via_in { via < self.old.used }
-        requires ready { Ready self.old }
+        requires ready { RowsReady self.old }
         ensures course { Place (rules_held self.old.book.now) self.old.lent s byte via self.old.used (others_of self.old) (others_of self.new) self.new.used result }
-        ensures ready { Ready self.new }
+        ensures ready { RowsReady self.new }
         ensures same { SameRows self.old self.new }
     {
         let live = self.onward(s, byte);
@@ -314,10 +314,10 @@ impl Rows<'_> {
         requires in_hand { InHand self.old.used s (others_of self.old) }
         requires row_long { length row.old ≡ 256 }
         requires via_in { ((c : ℕ) → c < 256 → get_or via.now c 0 < self.old.used) }
-        requires ready { Ready self.old }
+        requires ready { RowsReady self.old }
         ensures course { RowFilled (rules_held self.old.book.now) self.old.lent s via.now row.old self.old.used (others_of self.old) row.new (others_of self.new)
             self.new.used result }
-        ensures ready { Ready self.new }
+        ensures ready { RowsReady self.new }
         ensures same { SameRows self.old self.new }
     {
         for c in 0..256 {
@@ -331,10 +331,10 @@ impl Rows<'_> {
         requires sane { Sane self.old.lent self.old.used goto.old (others_of self.old) }
         requires row_in { s < self.old.used }
         requires rising { Rising self.old.held.now self.old.used (get_or self.old.held.now s 0 + 1) }
-        requires ready { Ready self.old }
+        requires ready { RowsReady self.old }
         ensures course { RowBuilt (rules_held self.old.book.now) self.old.lent self.old.used s goto.old (others_of self.old) goto.new (others_of self.new)
             self.new.used result }
-        ensures ready { Ready self.new }
+        ensures ready { RowsReady self.new }
         ensures same { SameRows self.old self.new }
     {
         let via = self.via_row(goto, s);
@@ -346,7 +346,7 @@ impl Rows<'_> {
     fn fill_all(&mut self, goto: &mut [u16]) -> Option<()>
         requires sane { Sane self.old.lent self.old.used goto.old (others_of self.old) }
         requires one { self.old.used ≡ 1 }
-        requires ready { Ready self.old }
+        requires ready { RowsReady self.old }
         ensures course { EveryRow (rules_held self.old.book.now) self.old.lent goto.old (others_of self.old) goto.new (others_of self.new) self.new.used result }
         ensures same { SameRows self.old self.new }
     {

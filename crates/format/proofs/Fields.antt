@@ -60,9 +60,6 @@ within s at = go (head_is s at)
 
 -- what was found to be the head of the field
 module _ (s : List ℕ) (at : ℕ) (x : Result Field Refusal) {h : Result Field Refusal} (p : h ≡ head_at s at) (q : h ≡ x) where
-  pub head_within : BodyWithin (length s) at x
-  head_within = subst (BodyWithin (length s) at) (sym p ∙ q) (within s at)
-
   pub field_headed : (a : Content) → field_at s at a ≡ field_of s at a x
   unfolding field_at
   field_headed a = ap (field_of s at a) (sym p ∙ q)

@@ -11,7 +11,7 @@ use Rattle.lines.specs.Lines.{sound_line, line_of}
 use Rattle.answers.specs.declared.Damaged.{Damaged}
 use Rattle.std.specs.Prelude.{Option, None, Result, Ok, Err, MatchResult}
 use Rattle.leaf.specs.declared.Leaf.{Leaf}
-use Rattle.leaf.specs.Leaf.{leaf_of, leaf_start, damaged, end_of, counts, unnamed, family_at, stack_leaf, line_leaf}
+use Rattle.leaf.specs.Leaf.{leaf_of, leaf_start, damaged, end_of, counts_at, unnamed, family_at, stack_leaf, line_leaf}
 use Rattle.leaf.proofs.Frames.{start-within, leaf_is}
 
 drop-take : (i n : ℕ) (l : List ℕ) → drop i (take n l) ≡ take (n - i) (drop i l)
@@ -43,14 +43,14 @@ module _ (b : Five) (n : ℕ) (line : List ℕ) where
   abbrev move : ℕ → ℕ → Option Moved
   move = move_of b.goto b.fall n
 
-  pub leaf_broken : None ≡ line_of line → counts unnamed 0 ≡ line_leaf b n line
+  pub leaf_broken : None ≡ line_of line → counts_at unnamed 0 ≡ line_leaf b n line
   unfolding line_leaf
   leaf_broken e = rw (← e)
 
   -- a line that is sound, and where the walk of its leaf ends
   module _ {stack count start : ℕ} (e : line_of line ≡ sound_line stack count) (l : stack < length line) (s : start ≡ leaf_start (take stack line)) where
     pub leaf_counts : {row place : ℕ} → Ok row ≡ end_of move (take (stack - start) (drop start line)) → place ≡ family_at b.held b.live b.out row (stack - start)
-        → counts place count ≡ line_leaf b n line
+        → counts_at place count ≡ line_leaf b n line
     unfolding line_leaf stack_leaf
     leaf_counts w f = rw (e, ends line l s move w, size line l s, f)
 

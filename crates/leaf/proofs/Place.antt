@@ -12,7 +12,7 @@ use Rattle.lines.specs.Profile.{count_in}
 use Rattle.answers.specs.declared.Damaged.{Damaged}
 use Rattle.leaf.specs.declared.Leaf.{Leaf}
 use Rattle.std.specs.Prelude.{Option, Some, None, Result, Ok, Err}
-use Rattle.leaf.specs.Leaf.{damaged, end_of, on_end, leaf_of, leaf_start, unnamed, family_at, counts, stack_leaf, line_leaf}
+use Rattle.leaf.specs.Leaf.{damaged, end_of, on_end, leaf_of, leaf_start, unnamed, family_at, counts_at, stack_leaf, line_leaf}
 use Rattle.leaf.proofs.InBoth.{family_within}
 
 -- what the leaf of a line of this count tells
@@ -26,7 +26,7 @@ module _ (b : Five) (n : ℕ) where
   unfolding stack_leaf
   stack_placed stack count = go (end_of (move_of b.goto b.fall n) (leaf_of stack))
     where
-      go : (e : Result ℕ Damaged) → OnePlace count (on_end e (λ row. counts (family_at b.held b.live b.out row (length (leaf_of stack))) count) (λ at. damaged (leaf_start stack + at)))
+      go : (e : Result ℕ Damaged) → OnePlace count (on_end e (λ row. counts_at (family_at b.held b.live b.out row (length (leaf_of stack))) count) (λ at. damaged (leaf_start stack + at)))
       go (Ok row) = (family_within b.held b.live b.out row (length (leaf_of stack)), refl)
       go (Err d) = tt
 
@@ -34,6 +34,6 @@ module _ (b : Five) (n : ℕ) where
   unfolding line_leaf
   line_placed line = go (line_of line)
     where
-      go : (l : Option Line) → OnePlace (on_line l (λ stack count. count) 0) (on_line l (λ stack count. stack_leaf b n (take stack line) count) (counts unnamed 0))
+      go : (l : Option Line) → OnePlace (on_line l (λ stack count. count) 0) (on_line l (λ stack count. stack_leaf b n (take stack line) count) (counts_at unnamed 0))
       go (Some l) = stack_placed (take l.stack line) l.count
       go None = (omega arith, refl)

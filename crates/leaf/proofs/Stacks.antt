@@ -10,7 +10,7 @@ use Rattle.one_byte.specs.Move.{move_of}
 use Rattle.std.specs.Prelude.{Result, Ok, Err}
 use Rattle.answers.specs.declared.Damaged.{Damaged}
 use Rattle.lines.specs.Lines.{Pass}
-use Rattle.leaf.specs.Leaf.{leaf_of, leaf_start, damaged, end_of, on_end, unnamed, family_at, counts, stack_leaf, on_leaf}
+use Rattle.leaf.specs.Leaf.{leaf_of, leaf_start, damaged, end_of, on_end, unnamed, family_at, counts_at, stack_leaf, on_leaf}
 
 module _ {A : Type 0} (b : Five) (n : ℕ) (f : ℕ → ℕ → A) (g : ℕ → A) where
   pub stack_by_end : (stack : List ℕ) (count : ℕ) → on_leaf (stack_leaf b n stack count) f g
@@ -18,7 +18,7 @@ module _ {A : Type 0} (b : Five) (n : ℕ) (f : ℕ → ℕ → A) (g : ℕ → 
   unfolding stack_leaf
   stack_by_end stack count = go (end_of (move_of b.goto b.fall n) (leaf_of stack))
     where
-      go : (e : Result ℕ Damaged) → on_leaf (on_end e (λ row. counts (family_at b.held b.live b.out row (length (leaf_of stack))) count) (λ at. damaged (leaf_start stack + at))) f g
+      go : (e : Result ℕ Damaged) → on_leaf (on_end e (λ row. counts_at (family_at b.held b.live b.out row (length (leaf_of stack))) count) (λ at. damaged (leaf_start stack + at))) f g
           ≡ on_end e (λ row. f (family_at b.held b.live b.out row (length (leaf_of stack))) count) (λ at. g (leaf_start stack + at))
       go (Ok row) = refl
       go (Err d) = refl

@@ -58,18 +58,18 @@ family_at held live out row size = cond (eqb (get_or held row 0) size) (lowest_o
 -- ---- a line
 
 -- the line's count goes to this place
-abbrev pub counts : ℕ → ℕ → Result Leaf Damaged
-counts place count = Ok (record { place = place; count = count })
+abbrev pub counts_at : ℕ → ℕ → Result Leaf Damaged
+counts_at place count = Ok (record { place = place; count = count })
 
 module _ (b : Five) (n : ℕ) where
   -- what the leaf of a stack comes to, where the line has this count: the count goes to a place, or the walk fails at a byte of the stack
   unfoldable pub stack_leaf : List ℕ → ℕ → Result Leaf Damaged
   stack_leaf stack count =
-      on_end (end_of (move_of b.goto b.fall n) (leaf_of stack)) (λ row. counts (family_at b.held b.live b.out row (length (leaf_of stack))) count) (λ at. damaged (leaf_start stack + at))
+      on_end (end_of (move_of b.goto b.fall n) (leaf_of stack)) (λ row. counts_at (family_at b.held b.live b.out row (length (leaf_of stack))) count) (λ at. damaged (leaf_start stack + at))
 
   -- A line's leaf; a line that breaks the rules counts nothing.
   unfoldable pub line_leaf : List ℕ → Result Leaf Damaged
-  line_leaf line = on_line (line_of line) (λ stack count. stack_leaf (take stack line) count) (counts unnamed 0)
+  line_leaf line = on_line (line_of line) (λ stack count. stack_leaf (take stack line) count) (counts_at unnamed 0)
 
 -- f of the place and the count, or g of the byte
 abbrev pub on_leaf : {A : Type 0} → Result Leaf Damaged → (ℕ → ℕ → A) → (ℕ → A) → A

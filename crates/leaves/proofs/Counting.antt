@@ -21,7 +21,7 @@ use Rattle.book.specs.Content.{table}
 use Rattle.shares.specs.Shares.{all_places, amount_at}
 use Rattle.book.proofs.Tables.{is_table}
 use Rattle.leaf.specs.declared.Leaf.{Leaf}
-use Rattle.leaf.specs.Leaf.{damaged, counts, line_leaf, on_leaf}
+use Rattle.leaf.specs.Leaf.{damaged, counts_at, line_leaf, on_leaf}
 use Rattle.leaves.specs.Totals.{leaf_pass, leaves_pass, line_adds, profile_adds}
 use Rattle.leaves.specs.Steps.{counted_lines}
 use Rattle.leaves.proofs.EachPlace.{adds-within}
@@ -54,7 +54,7 @@ module _ (b : Five) (n : ℕ) (profile : List ℕ) where
     unfolding sum_over
     rest_step p = ap (sum_over (line_adds b n p)) (lines_step profile at end l e m)
 
-    module _ {place count : ℕ} (w : counts place count ≡ line_leaf b n (piece profile at end)) (place-there : place < all_places) where
+    module _ {place count : ℕ} (w : counts_at place count ≡ line_leaf b n (piece profile at end)) (place-there : place < all_places) where
       own : line_adds b n place (piece profile at end) ≡ count
       unfolding line_adds
       own = rw (← w, eq-eqb place place refl)

@@ -36,16 +36,16 @@ use Rattle.widen.specs.contracts.ShortNumbered.TheImpl as short
 use Rattle.widen.specs.Widen.{number_of as number_widened, value_of as value_widened}
 
 -- what the trait gives is this number and this value
-pub record Same {A : Type 0} (trait : Ghosts A) (number value : A → ℕ) : Type 0 where
+pub record AsDefined {A : Type 0} (trait : Ghosts A) (number value : A → ℕ) : Type 0 where
   pub number_is : (x : A) → trait.number_is x ≡ number x
   pub value_is : (x : A) → trait.value_is x ≡ value x
 
 -- so it is for each answer
 pub record ByTrait : Type 0 where
-  pub read : Same {A = Answer} (of_result unit refusal_row unit_worth.ghosts unit_worth.dict refusal.ghosts refusal.dict) number_of value_of
-  pub built : Same {A = Built} (of_result usize build_row usize_worth.ghosts usize_worth.dict build.ghosts build.dict) number_built value_built
-  pub walked : Same {A = Result Walked WalkRefusal} (of_result walked_row walk_row walked_worth.ghosts walked_worth.dict walk.ghosts walk.dict) number_walked value_walked
-  pub tallied : Same {A = Result Unit TallyRefusal} (of_result unit tally_row unit_worth.ghosts unit_worth.dict tally.ghosts tally.dict) number_tallied value_tallied
-  pub added : Same {A = Result Unit AddRefusal} (of_result unit add_row unit_worth.ghosts unit_worth.dict add.ghosts add.dict) number_added value_added
-  pub shared : Same {A = Result Unit Past} (of_result unit past_row unit_worth.ghosts unit_worth.dict past.ghosts past.dict) number_shared value_shared
-  pub widened : Same {A = Result Unit Short} (of_result unit short_row unit_worth.ghosts unit_worth.dict short.ghosts short.dict) number_widened value_widened
+  pub read : AsDefined {A = Answer} (of_result unit refusal_row unit_worth.ghosts unit_worth.dict refusal.ghosts refusal.dict) number_of value_of
+  pub built : AsDefined {A = Built} (of_result usize build_row usize_worth.ghosts usize_worth.dict build.ghosts build.dict) number_built value_built
+  pub walked : AsDefined {A = Result Walked WalkRefusal} (of_result walked_row walk_row walked_worth.ghosts walked_worth.dict walk.ghosts walk.dict) number_walked value_walked
+  pub tallied : AsDefined {A = Result Unit TallyRefusal} (of_result unit tally_row unit_worth.ghosts unit_worth.dict tally.ghosts tally.dict) number_tallied value_tallied
+  pub added : AsDefined {A = Result Unit AddRefusal} (of_result unit add_row unit_worth.ghosts unit_worth.dict add.ghosts add.dict) number_added value_added
+  pub shared : AsDefined {A = Result Unit Past} (of_result unit past_row unit_worth.ghosts unit_worth.dict past.ghosts past.dict) number_shared value_shared
+  pub widened : AsDefined {A = Result Unit Short} (of_result unit short_row unit_worth.ghosts unit_worth.dict short.ghosts short.dict) number_widened value_widened

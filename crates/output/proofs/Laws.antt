@@ -14,7 +14,7 @@ use Rattle.sets.proofs.Members.{sets_append}
 use Rattle.io.specs.Digits.{hex_digit_ascii, last_digits, IsDigitCount}
 use Rattle.output.specs.declared.Answer.{Answer}
 use Rattle.output.specs.Printed.{Puts, numeral, numeral_in}
-use Rattle.output.specs.Adds.{Adds}
+use Rattle.output.specs.PutsNext.{PutsNext}
 
 -- ---- a run of stores
 
@@ -70,7 +70,7 @@ puts_append {xs} {ys} {l₀} {l₁} {l₂} {at} {r₁} {r₂} p q = record {
         ∙ sym (sets_append l₀ xs ys at ∙ sets_past ys (sets l₀ at xs) (at + length xs) (omega (arith, end)))
 
 -- the same of an answer
-pub adds_append : {xs ys : List ℕ} {a b c : Answer} → Adds xs a b → Adds ys b c → Adds (xs ++ ys) a c
+pub adds_append : {xs ys : List ℕ} {a b c : Answer} → PutsNext xs a b → PutsNext ys b c → PutsNext (xs ++ ys) a c
 adds_append p q = record { puts = puts_append p.puts q.puts; same = q.same ∙ p.same }
 
 -- ---- a number's digits

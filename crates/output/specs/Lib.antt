@@ -1,3 +1,3 @@
 -- The definitions of `output`. Assumes nothing.
 pub mod Printed
-pub mod Adds
+pub mod PutsNext

@@ -2,7 +2,7 @@
 #![tactic(auto)]
 
 ghost use Rattle.output.specs.Printed.{numeral, pair_line, refused_line, built_line};
-ghost use Rattle.output.specs.Adds.{Adds};
+ghost use Rattle.output.specs.PutsNext.{PutsNext};
 
 // The descriptors of standard output, where the answer goes, and of standard error.
 const STANDARD_OUTPUT: i32 = 1;
@@ -20,7 +20,7 @@ pub struct Answer<'a> {
 impl Answer<'_> {
     // Puts bytes, as many as there is room for.
     pub fn put(&mut self, bytes: &[u8])
-        ensures { Adds bytes.now self.old self.new }
+        ensures { PutsNext bytes.now self.old self.new }
     {
         let start = self.end.min(self.bytes.len());
         let more = bytes.len().min(self.bytes.len() - start);
@@ -30,7 +30,7 @@ impl Answer<'_> {
 
     // The same for a number, in decimal: the digits are made by `io::decimal`, whose promise is proved to give `numeral`.
     pub fn put_number(&mut self, n: u64)
-        ensures { Adds (numeral n) self.old self.new }
+        ensures { PutsNext (numeral n) self.old self.new }
     {
         let mut digits = [0u8; 20];
         let k = io::decimal(n, &mut digits);
@@ -39,7 +39,7 @@ impl Answer<'_> {
 
     // The same for a line of two numbers, each behind a word.
     pub fn put_pair(&mut self, first: &[u8], a: u64, second: &[u8], b: u64)
-        ensures { Adds (pair_line first.now a second.now b) self.old self.new }
+        ensures { PutsNext (pair_line first.now a second.now b) self.old self.new }
     {
         self.put(first);
         self.put_number(a);
@@ -50,14 +50,14 @@ impl Answer<'_> {
 
     // The same for the line of a refusal, by the paper's number and value.
     pub fn put_refusal(&mut self, number: usize, value: u64)
-        ensures { Adds (refused_line number value) self.old self.new }
+        ensures { PutsNext (refused_line number value) self.old self.new }
     {
         self.put_pair(b"refused ", number as u64, b" ", value);
     }
 
     // The same for the line of a build: the rows used, or a refusal. It goes by the number, as its promise `built_line` does.
     pub fn put_built(&mut self, number: usize, value: u64)
-        ensures { Adds (built_line number value) self.old self.new }
+        ensures { PutsNext (built_line number value) self.old self.new }
     {
         if number != 0 {
             self.put_refusal(number, value);

@@ -4,7 +4,7 @@
 ghost use Rattle.std.specs.Prelude.{◌≡◌, ℕ, List, ◌+◌, ◌≤◌, length, take, drop};
 ghost use Rattle.meaning.specs.Tables.{Five};
 ghost use Rattle.lent.specs.Lent.{tables_of};
-ghost use Rattle.output.specs.Adds.{Adds};
+ghost use Rattle.output.specs.PutsNext.{PutsNext};
 ghost use Rattle.program.specs.Program.{ProgramAnswer};
 
 use lent::{Buffers, Machine};
@@ -22,7 +22,7 @@ pub trait Lines {
 
     fn put(&self, tables: &Machine, answer: &mut Answer)
         ensures fits { length (lines_of self.now (tables_of tables.now) tables.now.rows) ≤ room }
-        ensures puts { Adds (lines_of self.now (tables_of tables.now) tables.now.rows) answer.old answer.new };
+        ensures puts { PutsNext (lines_of self.now (tables_of tables.now) tables.now.rows) answer.old answer.new };
 }
 
 // Reads both inputs and hands them on; or writes that they are refused. Whoever gives a function to call says that it may be called.

@@ -11,7 +11,7 @@ use Rattle.format.specs.declared.Refusal.TheVariants.{NoRule}
 use Rattle.book.specs.Content.{Content, nothing, record_of}
 use Rattle.format.specs.Format.{Outcome, goes, stops, field_at, Meaning, means, refused, ended, meaning_of}
 use Rattle.reader.specs.Handed.{handed, read_of}
-use Rattle.reader.specs.Leaves.{Shows, TakesField, Reads, TakesAll}
+use Rattle.reader.specs.Leaves.{Shows, TakesField, TakenIs, TakesAll}
 use Rattle.book.proofs.Held.{rules-held}
 use Rattle.format.proofs.Rests.{Rest, rest-start, rest_goes, rest-stops, rest-ends, ahead-goes}
 
@@ -64,7 +64,7 @@ module _ (s : List ℕ) (b : Book) where
   unfolding read_of handed
   accepted-read w = go (meaning_of s) w
     where
-      go : (m : Meaning) → Reads (Ok tt) b m → record { answer = Ok tt; book = b } ≡ handed m
+      go : (m : Meaning) → TakenIs (Ok tt) b m → record { answer = Ok tt; book = b } ≡ handed m
       go (means a) k = λ i. record { answer = Ok tt; book = k.1 i }
       go (refused y) k = absurd (cc)
 
@@ -72,7 +72,7 @@ module _ (s : List ℕ) (b : Book) where
   unfolding read_of handed
   refused-read {x} b' w q = go (meaning_of s) w
     where
-      go : (m : Meaning) → Reads (Err x) b' m → record { answer = Err x; book = b } ≡ handed m
+      go : (m : Meaning) → TakenIs (Err x) b' m → record { answer = Err x; book = b } ≡ handed m
       go (means a) k = absurd (cc)
       go (refused z) k = let e : x ≡ z = cc in λ i. record { answer = Err (e i); book = q i }
 

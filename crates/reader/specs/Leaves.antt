@@ -30,10 +30,10 @@ abbrev pub TakesField : Book → List ℕ → ℕ → Result ℕ Refusal → Boo
 TakesField b s at r b' = (a : Content) → b ≡ record_of a → Shows r b' (field_at s at a)
 
 -- an answer, with the book then, shows a meaning
-abbrev pub Reads : Answer → Book → Meaning → Type 0
-Reads r b (means a) = (r ≡ Ok tt) × (b ≡ record_of a)
-Reads r b (refused x) = r ≡ Err x
+abbrev pub TakenIs : Answer → Book → Meaning → Type 0
+TakenIs r b (means a) = (r ≡ Ok tt) × (b ≡ record_of a)
+TakenIs r b (refused x) = r ≡ Err x
 
 -- r and the book then show what the bytes s mean
 abbrev pub TakesAll : List ℕ → Answer → Book → Type 0
-TakesAll s r b = Reads r b (meaning_of s)
+TakesAll s r b = TakenIs r b (meaning_of s)

@@ -10,7 +10,7 @@ use lib.ListN.{length, get_or, drop, length-append, drop_of_length-le}
 use lib.Seq.{drop-cons}
 use Rattle.output.specs.declared.Answer.{Answer}
 use Rattle.output.specs.Printed.{pair_line}
-use Rattle.output.specs.Adds.{Adds}
+use Rattle.output.specs.PutsNext.{PutsNext}
 use Rattle.output.proofs.Laws.{adds_append}
 use Rattle.output.proofs.Room.{numeral_32, numeral_any, pair_length}
 use Rattle.shown.specs.Shown.{report_lines, shown_lines, sum_line, sum_lines}
@@ -21,14 +21,14 @@ use Rattle.shown.specs.Shown.{report_lines, shown_lines, sum_line, sum_lines}
 pub record Front (all rest : List ℕ) (old new : Answer) : Type 0 where
   pub done : List ℕ
   pub split : all ≡ done ++ rest
-  pub adds : Adds done old new
+  pub adds : PutsNext done old new
 
 -- one line more
-pub front_next : {all line rest : List ℕ} {a b c : Answer} → Front all (line ++ rest) a b → Adds line b c → Front all rest a c
+pub front_next : {all line rest : List ℕ} {a b c : Answer} → Front all (line ++ rest) a b → PutsNext line b c → Front all rest a c
 front_next {all} {line} {rest} p q = record { done = p.done ++ line; split = p.split ∙ sym (append_assoc p.done line rest); adds = adds_append p.adds q }
 
-pub front_all : {all : List ℕ} {a b : Answer} → Front all [] a b → Adds all a b
-front_all {all} {a} {b} p = subst (λ ls. Adds ls a b) (sym (p.split ∙ append-nil p.done)) p.adds
+pub front_all : {all : List ℕ} {a b : Answer} → Front all [] a b → PutsNext all a b
+front_all {all} {a} {b} p = subst (λ ls. PutsNext ls a b) (sym (p.split ∙ append-nil p.done)) p.adds
 
 -- ---- the lines of a walk
 

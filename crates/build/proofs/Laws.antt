@@ -1,5 +1,5 @@
 -- Laws on sets of rules and on the rules of a record. Assumes nothing.
-use Prim.Native.Nat.{ℕ, ◌+◌, ◌*◌, ◌/◌, ◌%◌, ◌≤◌, ◌<◌}
+use Prim.Native.Nat.{ℕ, zero, suc, ◌+◌, ◌-◌, ◌*◌, ◌/◌, ◌%◌, ◌^◌, ◌≤◌, ◌<◌}
 use mathlib.Core.Path.{◌≡◌, refl, sym, ap, ◌∙◌}
 use mathlib.Core.Logic.{◌≢◌}
 use mathlib.Core.Bool.{Bool, true, false, ◌&&◌, ◌||◌, or-false, or-true, true-or, and_assoc}
@@ -7,8 +7,9 @@ use mathlib.Core.List.{List, ◌∷◌}
 use native.Mathlib.Omega.{arith}
 use native.Mathlib.Decide.{dec_lt}
 use lib.Dec.{eqb, ltb}
-use lib.ListN.{length, get_or, replicate, get_or-eq_default}
-use Rattle.std.proofs.lemmas.List.{get_or-replicate}
+use native.Mathlib.Nat.{pow-suc}
+use lib.Pow.{suc_ones}
+use lib.ListN.{length, get_or, get_or-eq_default}
 use borrow.Author.Tests.{eq-eqb, ne_eqb, le-ltb, lt-ltb}
 use Rattle.rows.proofs.Compare.{less, equal, more, order}
 use Rattle.sets.specs.Sets.{has, set_where, adding, among, set_of}
@@ -62,27 +63,19 @@ set_of_those n p us ws f g long few e =
               rw (get_or-eq_default ws 0 past, has-empty, le-ltb k n (omega arith))
         ]
 
--- the word whose bits are all set has every number below 64, and a row of such words every rule
-abbrev pub full_word : ℕ
-full_word = 18446744073709551615
-
-in_word : (b : ℕ) → b < 64 → has full_word b ≡ true
+-- 2 ^ n - 1 has every number below n
+full_to : (n : ℕ) → set_where n (λ _. true) ≡ 2 ^ n - 1
 unfolding set_where
-in_word b l = has_in 64 b (λ _. true) l
+full_to zero = refl
+full_to (suc n) = rw (full_to n, pow-suc 2 n) (let p = suc_ones n in omega arith)
 
-pub in-all : (k : ℕ) → k < 64 * row_words → has (set_of (replicate row_words full_word)) k ≡ true
-in-all k l =
-    has-set_of (replicate row_words full_word) small k
-    ∙ rw (get_or-replicate row_words (k / 64) full_word 0 (omega arith)) (in_word (k % 64) (omega arith))
-  where
-    small : Words (replicate row_words full_word)
-    small i =
-        elim (dec_lt i row_words) [
-          | yes h ↦ rw (get_or-replicate row_words i full_word 0 h) (omega arith)
-          | no h ↦
-              let past : length (replicate row_words full_word) ≤ i = omega arith in
-              rw (get_or-eq_default (replicate row_words full_word) 0 past) (omega arith)
-        ]
+pub in_full : (n b : ℕ) → b < n → has (2 ^ n - 1) b ≡ true
+in_full n b l = rw (sym (full_to n)) (has_in n b (λ _. true) l)
+
+-- words that have, bit by bit, every number below n make a set that has them
+pub in-all : (n : ℕ) (ws : List ℕ) → Words ws → n ≤ 64 * row_words → ((i b : ℕ) → i < row_words → b < 64 → 64 * i + b < n → has (get_or ws i 0) b ≡ true)
+    → (k : ℕ) → k < n → has (set_of ws) k ≡ true
+in-all n ws g few e k l = has-set_of ws g k ∙ e (k / 64) (k % 64) (omega arith) (omega arith) (omega arith)
 
 -- ---- the rules that a record holds
 

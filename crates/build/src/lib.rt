@@ -1,7 +1,7 @@
 // The builder of tables: from the bytes of a rule book to the five tables, one row of 256 entries at a time.
 #![tactic(auto)]
 
-ghost use Rattle.std.specs.Prelude.{◌≡◌, Bool, ℕ, suc, ◌+◌, ◌*◌, ◌%◌, ◌<◌, ◌≤◌, length, get_or, set, take, drop, ◌&&◌, eqb, ltb};
+ghost use Rattle.std.specs.Prelude.{◌≡◌, Bool, ℕ, suc, ◌+◌, ◌*◌, ◌%◌, ◌<◌, ◌≤◌, length, get_or, set, take, drop, true, ◌&&◌, eqb, ltb};
 ghost use Rattle.sets.specs.Sets.{has, set_of, set_where};
 ghost use Rattle.sets.specs.Table.{row_words, rules_at};
 ghost use Rattle.std.specs.Int.Bits.{bit_or};
@@ -64,14 +64,43 @@ fn fits_at(book: &Book, held: usize, byte: u8, k: usize) -> bool
     held < usize::from(book.lengths[k]) && book.fits(byte, book.symbols[Book::SYMBOLS * k + held])
 }
 
+// The first n of the numbers below 64, as a set.
+fn below(n: usize) -> u64
+    ensures { (b : ℕ) → b < 64 → b < n → has result b ≡ true }
+{
+    if n < 64 { (1 << n) - 1 } else { u64::MAX }
+}
+
+// All rules, as a set, and no number past them, which would be asked for nothing.
+fn all_of(rules: usize) -> Set
+    requires { rules ≤ most_rules }
+    ensures all { (k : ℕ) → k < rules → has (set_of result) k ≡ true }
+    ensures long { length result ≡ row_words }
+{
+    let mut all = words::none();
+    for i in 0..WORDS {
+        all[i] = below(rules.saturating_sub(64 * i));
+    }
+    all
+}
+
+// Those of a set of rules that go on with the byte, from a row with this held length.
+fn fitting(book: &Book, held: usize, set: &[u64], byte: u8) -> Set
+    requires { Within book.now }
+    ensures { (set_of result ≡ set_where book.now.rules (λ k. fits_at (rules_held book.now) byte k held && has (set_of set.now) k)) × (length result ≡ row_words) }
+{
+    those_of(set, book.rules, |k| fits_at(book, held, byte, k))
+}
+
 // The rules that go on with the byte, from a row with this held length and live set: of all rules, where nothing is held.
 fn extended(book: &Book, held: usize, live: &[u64], byte: u8) -> Set
     requires { Within book.now }
     ensures { (set_of result ≡ next_live (rules_held book.now) held (set_of live.now) byte) × (length result ≡ row_words) }
 {
-    let all = [u64::MAX; WORDS];
-    let set = if held == 0 { &all } else { live };
-    those_of(set, book.rules, |k| fits_at(book, held, byte, k))
+    if held == 0 {
+        return fitting(book, held, &all_of(book.rules), byte);
+    }
+    fitting(book, held, live, byte)
 }
 
 // The rules of the set that have just `held` symbols.

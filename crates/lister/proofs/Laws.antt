@@ -5,7 +5,7 @@ use mathlib.Core.Path.{◌≡◌, refl, sym, ap, subst, ◌∙◌}
 use Prim.Native.Nat.{ℕ, ◌+◌, ◌*◌, ◌/◌, ◌≤◌}
 use native.Mathlib.Omega.{arith}
 use lib.Dec.{ltb}
-use lib.ListN.{length, get_or, take, drop, length-append}
+use lib.ListN.{length, get_or, take, drop}
 use lib.Seq.{take_at}
 use Rattle.std.specs.Prelude.{Result, Ok, Err}
 use Rattle.output.specs.Printed.{Puts, refused_line}
@@ -22,6 +22,7 @@ use Rattle.answers.specs.Walked.{refusal_number, refusal_value}
 use Rattle.walk.specs.Walk.{run_of, reports_of, answer_of, walk_of, written}
 use Rattle.lent.proofs.HasRows.{has-rows}
 use Rattle.walk.proofs.Laws.{Right, counted}
+use Rattle.walk.proofs.Room.{accepted-within}
 use Rattle.book.specs.Limits.{most_bytes}
 use Rattle.lister.specs.Listing.{walked_lines, search_lines, PutsSearch}
 
@@ -49,17 +50,17 @@ module _ (b : Five) (n : ℕ) (text : List ℕ) where
 
   -- what an accepted walk left in front of the report buffer are its reports, and the lines shown are those of the search
   pub search-shown :
-      {k at e : ℕ} {w : Walked} {l l' : List ℕ} (old new : List ℕ) → Ok w ≡ walk_of b n text 16384 → new ≡ written (reports_of b.goto b.fall b.out n text) old → length new ≡ 16384
+      {k at e : ℕ} {w : Walked} {l l' : List ℕ} (old new : List ℕ) → Ok w ≡ walk_of b n text 16384 → new ≡ written (reports_of b.goto b.fall b.out n text) old
       → k ≡ 2 * w.reports → length (shown_lines (take k new) w.falls w.held) ≤ 11 * length (take k new) + 64 → Puts (shown_lines (take k new) w.falls w.held) l at l' e
       → PutsSearch b n text l at l' e
   unfolding written
-  search-shown {k} {at} {e} {w} {l} {l'} old new is left long twice short put =
+  search-shown {k} {at} {e} {w} {l} {l'} old new is left twice short put =
       let rs = reports_of b.goto b.fall b.out n text in
       let many : 2 * w.reports ≡ length rs = subst (λ x. Told x rs) (sym is) (told 16384) in
-      let few : length rs ≤ 16384 = omega (arith, long, ap length left, length-append rs (drop (length rs) old)) in
+      let few : 2 * w.reports ≤ 16384 = accepted-within b.goto b.fall b.held b.live b.out text n refl is refl in
       let all : take k new ≡ rs = ap (take k) left ∙ take_at rs (drop (length rs) old) k (sym (twice ∙ many)) in
       let lines : shown_lines (take k new) w.falls w.held ≡ search_lines b n text = ap (λ r. shown_lines r w.falls w.held) all ∙ ap (λ x. walked_lines x rs) is in
-      (omega (arith, ap length lines, short, ap length all, few), subst (λ ls. Puts ls l at l' e) lines put)
+      (omega (arith, ap length lines, short, ap length all, few, many), subst (λ ls. Puts ls l at l' e) lines put)
 
   -- the line of a refusal is that of the search
   pub search-refused :

@@ -77,13 +77,14 @@ whole : {bytes before after : List ℕ} {r : ℕ} → Puts bytes before 0 after 
 whole {bytes} {before} {after} {r} p h =
     let (end, all) = fitted p h in ap (take r) all ∙ take_at bytes (drop r before) r end
 
--- The answer is whole where there is room for a line of 64 bytes and for those that come after it. Of a build that is refused,
+-- Of a build that is refused the line stands alone,
+pub alone : (number value : ℕ) (more : List ℕ) → (number ≡ 0 → ⊥) → built_line number value ≡ answer_lines number value more
+alone number value more refused = sym (append-nil (built_line number value)) ∙ ap (λ b. built_line number value ++ cond b more []) (sym (ne_eqb number 0 refused))
+
+-- and the answer is whole where there is room for a line of 64 bytes and for those that come after it: of such a build,
 pub whole-refused : (number value : ℕ) (more : List ℕ) {r : ℕ} {l l' : List ℕ} → 64 ≤ length l → (number ≡ 0 → ⊥) → Puts (built_line number value) l 0 l' r
     → take r l' ≡ answer_lines number value more
-whole-refused number value more room refused put =
-    whole put (omega (arith, built-length number value))
-    ∙ sym (append-nil (built_line number value))
-    ∙ ap (λ b. built_line number value ++ cond b more []) (sym (ne_eqb number 0 refused))
+whole-refused number value more room refused put = whole put (omega (arith, built-length number value)) ∙ alone number value more refused
 
 -- and of one that is accepted
 pub whole-accepted : (rows : ℕ) (more : List ℕ) {at r : ℕ} {l l₁ l' : List ℕ} → 64 + length more ≤ length l → Puts (built_line 0 rows) l 0 l₁ at → Puts more l₁ at l' r

@@ -5,7 +5,7 @@ ghost use Rattle.std.specs.Prelude.{◌≡◌, ℕ, List, ◌+◌, ◌≤◌, le
 ghost use Rattle.meaning.specs.Tables.{Five};
 ghost use Rattle.lent.specs.Lent.{tables_of};
 ghost use Rattle.output.specs.PutsNext.{PutsNext};
-ghost use Rattle.program.specs.Program.{ProgramAnswer};
+ghost use Rattle.program.specs.Program.{ProgramAnswer, PutsAnswer};
 
 use lent::{Buffers, Machine};
 use numbered::Numbered;
@@ -39,12 +39,13 @@ pub fn run<F: FnOnce(&[u8], &[u8])>(rt: &(impl Files + io::Input), then: F)
 }
 
 // Builds the book's tables, and puts the line of that; where they are built, the lines of the program come behind it. Answers where they end.
-// They are whole where there is room for them; and the rest of the buffer is as it was. An end and no slice, as the buffer is the caller's and the promise is of
-// all of it.
+// As many of their bytes as have room stand there, all where there is room for them; and the rest of the buffer is as it was. An end and no slice, as the buffer
+// is the caller's and the promise is of all of it.
 pub fn put_answer<L: Lines>(book: &[u8], lines: &L, bytes: &mut [u8]) -> usize
     ensures within { result ≤ length bytes.new }
     ensures long { length bytes.new ≡ length bytes.old }
     ensures rest { drop result bytes.new ≡ drop result bytes.old }
+    ensures puts { PutsAnswer (L.lines_of lines.now) book.now bytes.old bytes.new result }
     ensures answers { 64 + L.room ≤ length bytes.old → ProgramAnswer (L.lines_of lines.now) book.now (take result bytes.new) }
 {
     let mut goto = [0u16; inputs::ENTRIES];

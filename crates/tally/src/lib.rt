@@ -157,8 +157,10 @@ pub fn tally(tables: &Machine, profile: &[u8], sums: &mut [u64]) -> Result<(), T
         return Err(TallyRefusal::FewSums { places: sums.len() });
     }
     lines::check(profile)?;
+    // A copy, which no sum that is written can be part of, so that its fields are not read again at each byte.
+    let own = *tables;
     let mut new = [0; Book::RULES];
-    walk_lines(tables, profile, &mut new)?;
+    walk_lines(&own, profile, &mut new)?;
     sums[..Book::RULES].copy_from_slice(&new);
     Ok(())
 }

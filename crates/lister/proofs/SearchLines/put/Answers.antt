@@ -17,7 +17,6 @@ returns-in-Ok c =
     c.in-Ok.ensures.answer
     c.in-Ok.ensures.buffer
     (omega arith)
-    (omega arith)
     c.put_walk.ensures.bounded
     c.put_walk.ensures.puts.puts in
     record { fits = short; puts = record { puts = put; same = c.put_walk.ensures.puts.same } }

@@ -1,6 +1,7 @@
 // The record of a read compared with the bodies of the book's fields: every place of it.
 use crate::judge::Sound;
 use book::Book;
+use drawn::part;
 
 pub fn is_record(sound: &Sound<'_>, got: &Book) -> bool {
     usize::from(got.pictures) == sound.pictures()
@@ -10,15 +11,25 @@ pub fn is_record(sound: &Sound<'_>, got: &Book) -> bool {
         && is_sets(sound, &got.picture)
 }
 
-// Each symbol as 256 times its kind plus its second byte, and 0 in the places that no rule uses.
+// Each symbol as 256 times its kind plus its second byte, and 0 in the places that no rule uses: rule by rule, as each one's bytes are sought once.
 fn is_symbols(sound: &Sound<'_>, symbols: &[u16; 16384]) -> bool {
-    symbols.iter().enumerate().all(|(i, symbol)| *symbol == symbol_of(sound.rule(i / 64), i % 64))
+    symbols
+        .chunks_exact(64)
+        .enumerate()
+        .all(|(k, places)| is_rule(sound.rule(k), places))
 }
 
-fn symbol_of(rule: &[u8], j: usize) -> u16 {
-    match rule.chunks_exact(2).nth(j) {
-        Some([kind, second]) => u16::from_be_bytes([*kind, *second]),
-        _ => 0,
+// The places of a rule: its pairs, and behind them 0.
+fn is_rule(rule: &[u8], places: &[u16]) -> bool {
+    let mut pairs = rule.chunks_exact(2).zip(places);
+    let unused = part(places, rule.len() / 2, places.len());
+    pairs.all(|(pair, symbol)| is_pair(pair, *symbol)) && unused.iter().all(|symbol| *symbol == 0)
+}
+
+fn is_pair(pair: &[u8], symbol: u16) -> bool {
+    match pair {
+        [kind, second] => symbol == u16::from_be_bytes([*kind, *second]),
+        _ => false,
     }
 }
 
